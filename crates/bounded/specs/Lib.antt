@@ -1,0 +1,2 @@
+pub mod Mitigation
+pub mod Tabled

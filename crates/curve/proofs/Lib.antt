@@ -1,0 +1,4 @@
+pub mod Floor
+pub mod Kept
+pub mod Sound
+pub mod Straight
