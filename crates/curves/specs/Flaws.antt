@@ -1,0 +1,13 @@
+-- The reason that a flaw gives, in bytes.
+use Prim.Native.Nat.{ℕ}
+use mathlib.Core.List.{List}
+use lib.Chars.{codes}
+use Rattle.script.specs.Reasons.{reasonOf}
+use Rattle.curves.specs.declared.stop.Flaw.{Flaw}
+use Rattle.curves.specs.declared.stop.Flaw.the-variants.{Form, NotText, NoCap, SecondCap}
+
+abbrev pub flawReason : Flaw → List ℕ
+flawReason (Form m) = reasonOf m
+flawReason NotText = codes "not text"
+flawReason NoCap = codes "no cap"
+flawReason SecondCap = codes "a second cap"

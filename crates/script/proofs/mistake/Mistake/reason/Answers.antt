@@ -1,0 +1,21 @@
+use mathlib.Core.Path.{ap, sym}
+use Rattle.script.specs.Reasons.{reasonOf}
+use Rattle.script.proofs.mistake.Mistake.reason.Needs as need
+
+pub returns-in-UnknownWord : need.returns-in-UnknownWord
+returns-in-UnknownWord c = ap reasonOf (sym (c .in-UnknownWord .is))
+
+pub returns-in-MissingWord : need.returns-in-MissingWord
+returns-in-MissingWord c = ap reasonOf (sym (c .in-MissingWord .is))
+
+pub returns-in-ExtraWord : need.returns-in-ExtraWord
+returns-in-ExtraWord c = ap reasonOf (sym (c .in-ExtraWord .is))
+
+pub returns-in-NotANumber : need.returns-in-NotANumber
+returns-in-NotANumber c = ap reasonOf (sym (c .in-NotANumber .is))
+
+pub returns-in-NotALetter : need.returns-in-NotALetter
+returns-in-NotALetter c = ap reasonOf (sym (c .in-NotALetter .is))
+
+pub returns-in-NotAPoint : need.returns-in-NotAPoint
+returns-in-NotAPoint c = ap reasonOf (sym (c .in-NotAPoint .is))
