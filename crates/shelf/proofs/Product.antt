@@ -86,3 +86,6 @@ times-within (negsuc a) (pos b) m n h i j k =
     let p : suc a ≤ m = omega (arith, lin) in let q : b ≤ n = omega (arith, lin) in let r = mul-le-mul p q in (omega (arith, lin), omega (arith, lin))
 times-within (negsuc a) (negsuc b) m n h i j k =
     let p : suc a ≤ m = omega (arith, lin) in let q : suc b ≤ n = omega (arith, lin) in let r = mul-le-mul p q in (omega (arith, lin), omega (arith, lin))
+
+pub times-one : (a : ℤ) → a *ℤ pos 1 ≡ a
+times-one a = let p = product-is a (pos 1) in omega (arith, lin)

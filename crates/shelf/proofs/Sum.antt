@@ -46,6 +46,11 @@ unfolding sum
 sum-minus zero f g = refl
 sum-minus (suc n) f g = let a = sum-minus n f g in omega (arith, lin)
 
+pub sum-neg : (n : ℕ) (f : ℕ → ℤ) → sum n (λ i. negℤ (f i)) ≡ negℤ (sum n f)
+unfolding sum
+sum-neg zero f = refl
+sum-neg (suc n) f = let a = sum-neg n f in omega (arith, lin)
+
 pub sum-times : (n : ℕ) (c : ℤ) (f : ℕ → ℤ) → sum n (λ i. c *ℤ f i) ≡ c *ℤ sum n f
 unfolding sum
 sum-times zero c f = sym (*ℤ-zero c)
@@ -106,3 +111,23 @@ sum-least (suc n) b f h =
     let c = h n (omega arith) in
     let e = suc-mul n b in
     omega (arith, lin)
+
+-- a sum of numbers that are not negative is not negative, and is 0 only where each of them is
+pub sum-positive : (n : ℕ) (f : ℕ → ℤ) → ((i : ℕ) → i < n → pos 0 ≤ℤ f i) → pos 0 ≤ℤ sum n f
+unfolding sum
+sum-positive zero f h = omega (arith, lin)
+sum-positive (suc n) f h =
+    let a = sum-positive n f (λ i l. h i (omega arith)) in
+    let b = h n (omega arith) in
+    omega (arith, lin)
+
+pub sum-nothing : (n : ℕ) (f : ℕ → ℤ) → ((i : ℕ) → i < n → pos 0 ≤ℤ f i) → sum n f ≡ pos 0 → (i : ℕ) → i < n → f i ≡ pos 0
+unfolding sum
+sum-nothing zero f h e i l = absurd (omega arith)
+sum-nothing (suc n) f h e i l =
+    let a = sum-positive n f (λ j k. h j (omega arith)) in
+    let b = h n (omega arith) in
+    ⊎-elim
+    (λ s. let last : f n ≡ pos 0 = omega (arith, lin) in ap f s ∙ last)
+    (λ ne. let rest : sum n f ≡ pos 0 = omega (arith, lin) in sum-nothing n f (λ j k. h j (omega arith)) rest i (omega arith))
+    (cases-eq i n)

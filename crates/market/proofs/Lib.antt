@@ -1,0 +1,5 @@
+pub mod Certificate
+pub mod Costs
+pub mod Fronts
+pub mod Identity
+pub mod Walks

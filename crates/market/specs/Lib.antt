@@ -1,0 +1,6 @@
+pub mod Best
+pub mod Laws
+pub mod Market
+pub mod Priced
+pub mod Quoted
+pub mod Walks
