@@ -1,18 +1,14 @@
 -- A table keeps the first thirteen points of a list.
-use Prim.Native.Nat.{ℕ, zero, suc, _+_, _<_}
+use Prim.Native.Nat.{ℕ, _+_, _<_}
 use native.Mathlib.Omega.{arith}
 use mathlib.Core.List.{List, [], _∷_, _++_}
-use mathlib.Core.Path.{_≡_, refl, sym, ap, _∙_}
+use mathlib.Core.Path.{_≡_, sym, ap, _∙_}
 use lib.ListN.{length, take, getD}
 use Rattle.std.proofs.shelf.Lists.{length-take, take-all, take-more, append-assoc}
+use Rattle.shelf.proofs.Lists.{take-joined}
 use Rattle.rows.specs.declared.row.Point.{Point}
 use Rattle.curve.specs.Listed.{listed, kept}
 use Rattle.curve.specs.declared.points.Points.{Points}
-
-take-joined : {X : Type 0} (n : ℕ) (xs ys : List X) → take n (take n xs ++ ys) ≡ take n (xs ++ ys)
-take-joined zero xs ys = refl
-take-joined (suc n) [] ys = refl
-take-joined (suc n) (x ∷ xs) ys = ap (λ zs. x ∷ zs) (take-joined n xs ys)
 
 pub kept-joined : (xs ys : List Point) → kept (kept xs ++ ys) ≡ kept (xs ++ ys)
 kept-joined xs ys = take-joined 13 xs ys
