@@ -23,7 +23,7 @@ pub struct BlockRow {
 
 impl BlockRow {
     // The submitted blocks, at most ten of them.
-    pub(crate) fn submitted(&self) -> &[Block]
+    pub fn submitted(&self) -> &[Block]
         ensures value { λ r. ⌜ now r ≡ blocksOf (now (self .entry)) ⌝ }
         ensures few { λ r. ⌜ length (now r) ≤ 10 ⌝ }
     {

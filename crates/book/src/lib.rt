@@ -6,6 +6,10 @@ ghost use Prim.Native.Nat.{ℕ, _≤_};
 ghost use lib.Signed.{_≤ℤ_};
 ghost use Rattle.book.specs.Meaning.{Book, Lawful, leastPrice, mostPrice};
 
+mod span;
+
+pub use span::price_span;
+
 // An offer book answers questions about its participants, numbered from 0. A participant or a level
 // that is not there has the answer 0.
 pub trait OfferBook {

@@ -1,3 +1,5 @@
-pub mod Flaws
-pub mod Sides
 pub mod Bends
+pub mod Flaws
+pub mod Parting
+pub mod Steps
+pub mod Terms

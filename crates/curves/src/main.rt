@@ -1,22 +1,35 @@
-// Reads the rows of a house book from standard input and prints the completed offer curve of each
-// unit, or one line that says why there are none.
+// Reads a house book or a block book from standard input, with mitigation terms and reference
+// prices, and prints the offer curve of each participant, or one line that says why there are none.
 
-mod book;
+mod corners;
+mod input;
+mod mitigation;
+mod printing;
+mod steps;
 mod stop;
 mod unit;
 
-use book::Book;
+use block::BlockBook;
+use block::BlockOffers;
 use fault::Fault;
+use house::HouseBook;
+use house::HouseOffers;
+use input::Input;
+use mitigation::mitigated;
+use printing::print_participant;
+use rows::OfferCap;
 use std::io;
 use std::io::BufRead;
 use std::io::BufReader;
 use std::io::ErrorKind;
 use std::io::Write;
+use steps::BlockCorners;
 use stop::Flaw;
 use stop::Stop;
 use stop::StopFromFault;
 use stop::StopFromIo;
 use unit::Unit;
+use unit::UnitCorners;
 
 fn main(rt: LibcRuntime) -> io::Result<()> {
     match run(&rt) {
@@ -28,44 +41,47 @@ fn main(rt: LibcRuntime) -> io::Result<()> {
 }
 
 fn run(rt: &LibcRuntime) -> Result<(), Stop> {
-    let book = read_book(rt)?;
-    let offer_cap = book.check()?;
-    for (place, row) in book.rows().iter().enumerate() {
-        print_unit(rt, place, &Unit::new(offer_cap, row)?)?;
+    let input = read_input(rt)?;
+    if input.blocks().is_empty() {
+        print_house(rt, &input)
+    } else {
+        print_blocks(rt, &input)
+    }
+}
+
+fn read_input(rt: &LibcRuntime) -> Result<Input, Stop> {
+    let heap = rt.alloc();
+    let mut input = Input::new(heap);
+    for line in BufReader::new(rt.stdin()).lines(heap) {
+        match line {
+            Ok(text) => input.read(text.as_str())?,
+            Err(error) if error.kind() == ErrorKind::InvalidData => return Err(input.not_text()),
+            Err(error) => return Err(error.into()),
+        }
+    }
+    Ok(input)
+}
+
+fn print_house(rt: &LibcRuntime, input: &Input) -> Result<(), Stop> {
+    let cents = input.cap()?;
+    let below = HouseBook::load(cents, input.rows())?;
+    let book = mitigated(below, input.terms(), input.references())?;
+    let offer_cap = OfferCap::new(cents)?;
+    for (place, row) in input.rows().iter().enumerate() {
+        let unit = Unit::new(offer_cap, row)?;
+        let letter = row.letter;
+        print!(rt, "row {place} class {letter}")?;
+        print_participant(rt, &book, place, &unit, input.references().is_some())?;
     }
     Ok(())
 }
 
-fn read_book(rt: &LibcRuntime) -> Result<Book, Stop> {
-    let heap = rt.alloc();
-    let mut book = Book::new(heap);
-    for line in BufReader::new(rt.stdin()).lines(heap) {
-        match line {
-            Ok(text) => book.read(text.as_str())?,
-            Err(error) if error.kind() == ErrorKind::InvalidData => return Err(book.not_text()),
-            Err(error) => return Err(error.into()),
-        }
-    }
-    Ok(book)
-}
-
-// A header, and then the corners of the curve.
-fn print_unit(rt: &LibcRuntime, place: usize, unit: &Unit) -> io::Result<()> {
-    let letter = unit.row.letter;
-    let bus = unit.row.bus;
-    let side = unit.side();
-    let low = unit.row.ldl;
-    let high = unit.row.hdl;
-    println!(
-        rt,
-        "row {place} class {letter} bus {bus} side {side} low {low} high {high}"
-    )?;
-    for below in low..high {
-        if unit.bends_after(below) {
-            let level = below + 1;
-            let price = unit.curve.price(level);
-            println!(rt, "{level} {price}")?;
-        }
+fn print_blocks(rt: &LibcRuntime, input: &Input) -> Result<(), Stop> {
+    let below = BlockBook::load(input.blocks())?;
+    let book = mitigated(below, input.terms(), input.references())?;
+    for (place, row) in input.blocks().iter().enumerate() {
+        print!(rt, "block {place}")?;
+        print_participant(rt, &book, place, row, input.references().is_some())?;
     }
     Ok(())
 }

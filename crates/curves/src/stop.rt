@@ -15,6 +15,10 @@ pub(crate) enum Flaw {
     NotText,
     NoCap,
     SecondCap,
+    Mixed,
+    LateRow,
+    SecondReference,
+    PriceCount,
 }
 
 #[derive(Drop)]
@@ -36,6 +40,10 @@ impl Flaw {
             Flaw::NotText => "not text",
             Flaw::NoCap => "no cap",
             Flaw::SecondCap => "a second cap",
+            Flaw::Mixed => "house rows and blocks in one book",
+            Flaw::LateRow => "a row after terms or reference prices",
+            Flaw::SecondReference => "a second line of reference prices",
+            Flaw::PriceCount => "not one reference price for each row",
         }
     }
 }

@@ -9,7 +9,7 @@ ghost use Rattle.std.specs.Vec.{made};
 ghost use Rattle.curve.specs.Complete.{Completes, lastOf, priceOn};
 ghost use Rattle.curve.specs.Listed.{listed};
 ghost use Rattle.curves.specs.Bends.{fromOf, toOf, pointAt, jumpAt, jumpOver};
-ghost use Rattle.curves.specs.Sides.{sideOf};
+use crate::corners::Corners;
 use curve::Curve;
 use fault::Fault;
 use rows::Class;
@@ -25,8 +25,8 @@ const COMMITTED_FLOOR: i32 = 25_000;
 // that it ends at HSL, and a generator's curve is not shifted.
 #[derive(Clone, Copy)]
 pub(crate) struct Unit {
-    pub(crate) row: Row,
-    pub(crate) curve: Curve,
+    row: Row,
+    curve: Curve,
     class: Class,
     from: u16,
     to: u16,
@@ -50,19 +50,9 @@ impl Unit {
         })
     }
 
-    // 1 for a generator, and -1 for a load.
-    pub(crate) fn side(&self) -> i32
-        ensures { λ r. ⌜ r ≡ sideOf (now (self .entry) .class) ⌝ }
-    {
-        match self.class {
-            Class::Load => -1,
-            _ => 1,
-        }
-    }
-
     // Whether the level after `below` is a corner: the first or the last one, one on a point, or
     // one past a jump or past the committed floor.
-    pub(crate) fn bends_after(&self, below: u16) -> bool
+    fn bends_after(&self, below: u16) -> bool
         requires { ⌜ below < 65535 ⌝ }
         ensures first { λ r. ⌜ (below ≡ now (self .entry) .row .ldl → T r) ⌝ }
         ensures last { λ r. ⌜ (below + 1 ≡ now (self .entry) .row .hdl → T r) ⌝ }
@@ -108,6 +98,12 @@ impl Unit {
             && level < self.row.hdl
             && self.curve.price(level) == COMMITTED_FLOOR
             && self.curve.price(level + 1) > COMMITTED_FLOOR
+    }
+}
+
+pub(crate) impl Corners for Unit as UnitCorners {
+    fn corner_after(&self, below: u16) -> bool {
+        self.bends_after(below)
     }
 }
 

@@ -8,11 +8,14 @@ ghost use Rattle.std.specs.Options.{Cases};
 ghost use Rattle.dispatch.specs.Base.{baseOf, reachable, holds};
 use crate::dispatch::Dispatch;
 
+// The greatest base point, in tenths.
+const MOST: u16 = 20_000;
+
 fn all_reachable(points: &[u16]) -> bool
     ensures { λ r. ⌜ r ≡ reachable (now (points .entry)) ⌝ }
 {
     for point in points {
-        if *point > 20_000 {
+        if *point > MOST {
             return false;
         }
     }

@@ -11,6 +11,13 @@ pub enum Mistake {
     NotANumber,
     NotALetter,
     NotAPoint,
+    NotABlock,
+    NotYesOrNo,
+    TooManyPrices,
+    NotAShare,
+    BusRange,
+    RepeatedBus,
+    ManyBasePoints,
 }
 
 impl Mistake {
@@ -25,6 +32,13 @@ impl Mistake {
             Mistake::NotANumber => "not a number",
             Mistake::NotALetter => "a class is one letter",
             Mistake::NotAPoint => "a point is level:price",
+            Mistake::NotABlock => "a block is size:price",
+            Mistake::NotYesOrNo => "neither yes nor no",
+            Mistake::TooManyPrices => "more than 64 reference prices",
+            Mistake::NotAShare => "a share is bus:share",
+            Mistake::BusRange => "a bus is 0 to 63",
+            Mistake::RepeatedBus => "a bus is named twice",
+            Mistake::ManyBasePoints => "over 64 base points",
         }
     }
 }

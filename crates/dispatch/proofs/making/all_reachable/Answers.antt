@@ -14,8 +14,8 @@ ahead : (xs : List ℕ) (i : ℕ) → i < length xs → reachable (drop i xs) �
 unfolding reachable
 ahead xs i h = at-drop-more reachable xs i 0 h
 
-pub returns-then-point-gt20000 : need.returns-then-point-gt20000
-returns-then-point-gt20000 c =
+pub returns-then-point-gt-MOST : need.returns-then-point-gt-MOST
+returns-then-point-gt-MOST c =
     let h = ahead (c .args .points .now) (c .loop-point .point-index) (omega arith) in grind (arith, tells)
 
 pub loop-point-again : need.loop-point-again

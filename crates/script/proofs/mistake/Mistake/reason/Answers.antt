@@ -19,3 +19,24 @@ returns-in-NotALetter c = ap reasonOf (sym (c .in-NotALetter .is))
 
 pub returns-in-NotAPoint : need.returns-in-NotAPoint
 returns-in-NotAPoint c = ap reasonOf (sym (c .in-NotAPoint .is))
+
+pub returns-in-NotABlock : need.returns-in-NotABlock
+returns-in-NotABlock c = ap reasonOf (sym (c .in-NotABlock .is))
+
+pub returns-in-NotYesOrNo : need.returns-in-NotYesOrNo
+returns-in-NotYesOrNo c = ap reasonOf (sym (c .in-NotYesOrNo .is))
+
+pub returns-in-TooManyPrices : need.returns-in-TooManyPrices
+returns-in-TooManyPrices c = ap reasonOf (sym (c .in-TooManyPrices .is))
+
+pub returns-in-NotAShare : need.returns-in-NotAShare
+returns-in-NotAShare c = ap reasonOf (sym (c .in-NotAShare .is))
+
+pub returns-in-BusRange : need.returns-in-BusRange
+returns-in-BusRange c = ap reasonOf (sym (c .in-BusRange .is))
+
+pub returns-in-RepeatedBus : need.returns-in-RepeatedBus
+returns-in-RepeatedBus c = ap reasonOf (sym (c .in-RepeatedBus .is))
+
+pub returns-in-ManyBasePoints : need.returns-in-ManyBasePoints
+returns-in-ManyBasePoints c = ap reasonOf (sym (c .in-ManyBasePoints .is))
