@@ -33,6 +33,10 @@ pub record Descended (m : Book) (price : ℤ) (i from to : ℕ) (total : ℤ) : 
   pub last : m .low i < to → pos 0 ≤ℤ gainAt m price i to
   pub next : to < from → gainAt m price i (suc to) ≤ℤ pos 0
 
+-- within what two walks can make
+abbrev pub Moderate : ℤ → Type 0
+Moderate z = (negℤ (pos 1360000000000000) ≤ℤ z) × (z ≤ℤ pos 1360000000000000)
+
 -- what a participant forgoes at a base point within its limits
 abbrev pub forgoneOr : Book → Grid → Prices → ℕ → ℕ → Option ℤ
 forgoneOr m g p i q =

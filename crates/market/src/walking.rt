@@ -5,9 +5,10 @@ ghost use mathlib.Core.Path.{_≡_};
 ghost use Prim.Native.Nat.{suc, _≤_, _<_};
 ghost use lib.IntN.{pos, negsuc, _-ℤ_, _*ℤ_};
 ghost use lib.Signed.{_≤ℤ_};
+ghost use Rattle.std.specs.Options.{Cases};
 ghost use Rattle.market.specs.Market.{gainAt, forgoneAt};
 ghost use Rattle.market.specs.Quoted.{pricesOf};
-ghost use Rattle.market.specs.Walks.{Climbed, Descended, forgoneOr};
+ghost use Rattle.market.specs.Walks.{Climbed, Descended, Moderate, forgoneOr};
 use crate::nodal::lmp;
 use crate::quote::Quote;
 use crate::sides::sided;
@@ -78,7 +79,8 @@ fn forgone_at<B: OfferBook>(book: &B, participant: usize, lmp: i64, base: u16) -
     requires lmp { ⌜ negsuc 32999999999 ≤ℤ lmp ⌝ ∗ ⌜ lmp ≤ℤ pos 33000000000 ⌝ }
     requires there { ⌜ participant < B·OfferBook .meaning (now book) .count ⌝ }
     requires base { ⌜ B·OfferBook .meaning (now book) .low participant ≤ base ⌝ ∗ ⌜ base ≤ B·OfferBook .meaning (now book) .high participant ⌝ }
-    ensures { λ r. ⌜ r ≡ forgoneAt (B·OfferBook .meaning (now (book .entry))) lmp participant base ⌝ }
+    ensures value { λ r. ⌜ r ≡ forgoneAt (B·OfferBook .meaning (now (book .entry))) lmp participant base ⌝ }
+    ensures range { λ r. ⌜ Moderate r ⌝ }
 {
     let (top, climbed) = climb(book, participant, lmp, base);
     let (_, saved) = descend(book, participant, lmp, top);
@@ -89,7 +91,8 @@ fn forgone_at<B: OfferBook>(book: &B, participant: usize, lmp: i64, base: u16) -
 // to any level within its limits, less that up to the base point. None where there is no such participant, or the
 // base point lies outside its limits.
 pub fn forgone<B: OfferBook, N: Network>(book: &B, network: &N, quote: &Quote, participant: usize, base: u16) -> Option<i64>
-    ensures { λ r. ⌜ r ≡ forgoneOr (B·OfferBook .meaning (now (book .entry))) (N·Network .meaning (now (network .entry))) (pricesOf (now (quote .entry))) participant base ⌝ }
+    ensures value { λ r. ⌜ r ≡ forgoneOr (B·OfferBook .meaning (now (book .entry))) (N·Network .meaning (now (network .entry))) (pricesOf (now (quote .entry))) participant base ⌝ }
+    ensures range { λ r. ⌜ Cases r (Unit {0}) Moderate ⌝ }
 {
     if participant < book.count() && book.low(participant) <= base && base <= book.high(participant) {
         let price = lmp(book, network, quote, participant);

@@ -1,4 +1,4 @@
-// Tests of prices, worth and forgone gains on the two-unit market of the documents.
+// Tests of prices, worth, checks and gaps on the two-unit market of the documents.
 
 #[cfg(test)]
 mod tests;

@@ -2,6 +2,11 @@
 
 use dispatch::Dispatch;
 use fault::Fault;
+use feasible::Constraints;
+use feasible::Infeasible;
+use feasible::Stage;
+use feasible::infeasible;
+use gap::gap;
 use house::HouseBook;
 use house::HouseOffers;
 use market::Quote;
@@ -79,4 +84,62 @@ fn quotes_in_range() -> Result<(), Fail> {
     check(Quote::new(-1_000_001, &[]).is_none())?;
     check(Quote::new(0, &[1_000_001]).is_none())?;
     check(Quote::new(0, &[0; 33]).is_none())
+}
+
+fn constraints() -> Constraints {
+    let mut constraints = Constraints::new();
+    let _ = constraints.require(250);
+    let _ = constraints.limit(0, 200, false);
+    constraints
+}
+
+fn gap_at(stage: Stage, system: i32, shadow: u32, base: [u16; 2]) -> Option<i64> {
+    let book = book().ok()?;
+    let network = network().ok()?;
+    let quote = Quote::new(system, &[shadow])?;
+    let dispatch = Dispatch::new(&base)?;
+    gap(&book, &network, &constraints(), stage, &quote, &dispatch)
+}
+
+#[test]
+fn gaps() -> Result<(), Fail> {
+    check_eq(gap_at(Stage::First, 3_500, 0, [250, 0]), Some(0))?;
+    check_eq(gap_at(Stage::First, 3_520, 0, [250, 0]), Some(10_000))?;
+    check_eq(gap_at(Stage::First, 3_500, 0, [249, 1]), Some(21_500_000))?;
+    check_eq(gap_at(Stage::First, 3_510, 10, [250, 0]), Some(0))?;
+    check_eq(gap_at(Stage::Second, 3_510, 10, [250, 0]), Some(-500_000))?;
+    check_eq(gap_at(Stage::First, 3_500, 0, [99, 151]), None)
+}
+
+fn why(stage: Stage, base: [u16; 2]) -> Option<Infeasible> {
+    let book = book().ok()?;
+    let network = network().ok()?;
+    let dispatch = Dispatch::new(&base)?;
+    infeasible(&book, &network, &dispatch, &constraints(), stage)
+}
+
+#[test]
+fn reasons_in_order() -> Result<(), Fail> {
+    check(why(Stage::First, [250, 0]).is_none())?;
+    let Some(Infeasible::OutsideLimits(unit)) = why(Stage::Second, [250, 201]) else { return Err(declined()); };
+    check_eq(unit, 1)?;
+    let Some(Infeasible::OutOfBalance) = why(Stage::Second, [250, 1]) else { return Err(declined()); };
+    let Some(Infeasible::Overloaded(line)) = why(Stage::Second, [250, 0]) else { return Err(declined()); };
+    check_eq(line, 0)?;
+    check(why(Stage::Second, [200, 50]).is_none())
+}
+
+#[test]
+fn constraints_in_range() -> Result<(), Fail> {
+    let mut constraints = Constraints::new();
+    check(constraints.require(2_000_000))?;
+    check(!constraints.require(2_000_001))?;
+    check(constraints.limit(31, 0, false))?;
+    check(!constraints.limit(32, 0, false))?;
+    check(!constraints.limit(0, 1_000_001, false))?;
+    check(constraints.observes(Stage::First, 0))?;
+    check(!constraints.observes(Stage::First, 31))?;
+    check(constraints.observes(Stage::Second, 31))?;
+    check_eq(constraints.room(0), 1_000_000_000)?;
+    check_eq(constraints.room(31), 0)
 }

@@ -11,7 +11,7 @@ use Rattle.std.proofs.shelf.Tests.{cases-lt}
 use Rattle.book.specs.Meaning as Books
 use Rattle.book.specs.Meaning.{Book}
 use Rattle.market.specs.Market.{gainAt, gainsUp, forgoneAt}
-use Rattle.market.specs.Walks.{Climbed, Descended}
+use Rattle.market.specs.Walks.{Climbed, Descended, Moderate}
 use Rattle.market.proofs.Certificate.{gains-fall}
 use Rattle.market.proofs.Fronts.{front-reached}
 use Rattle.market.proofs.walking.forgone_at.Needs as need
@@ -48,6 +48,9 @@ module _ (a b : ℤ) (al : negℤ (pos 680000000000000) ≤ℤ a) (ah : a ≤ℤ
   both : SFits w64 (a +ℤ b)
   both = omega (arith, ints)
 
+  moderate : Moderate (a +ℤ b)
+  moderate = (omega (arith, ints), omega (arith, ints))
+
 pub returns : need.returns
 returns g c =
     let m = g .B·OfferBook .meaning (c .args .book .now) in
@@ -61,4 +64,4 @@ returns g c =
     let bl = down .walked .least in
     let bh = down .walked .most in
     rw (toZ-ofZ w64 a (one a b al ah bl bh), toZ-ofZ w64 b (other a b al ah bl bh), toZ-ofZ w64 (a +ℤ b) (both a b al ah bl bh))
-    (reaches m (c .args .lmp) (c .args .participant) (c .args .base) (c .climb-top .result .0) (c .descend-saved .result .0) a b (g .B·OfferBook·met .lawful (c .args .book .now)) (c .pre .there) (c .pre .base .0) up down)
+    (record { value = reaches m (c .args .lmp) (c .args .participant) (c .args .base) (c .climb-top .result .0) (c .descend-saved .result .0) a b (g .B·OfferBook·met .lawful (c .args .book .now)) (c .pre .there) (c .pre .base .0) up down; range = moderate a b al ah bl bh })
