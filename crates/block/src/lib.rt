@@ -1,4 +1,5 @@
 // The book of owners with block offers: generators whose price is that of the block a level falls in.
+#![tactic(auto)]
 
 mod blocks;
 mod load;

@@ -1,5 +1,6 @@
 // What an offer book is: participants with a bus, a side, limits, a reading and a price for each
 // level. Whatever judges a dispatch is proved over this meaning, and so over any book.
+#![tactic(auto)]
 
 ghost use Rattle.std.specs.Prelude.{◌≡◌, ℕ, ◌≤◌, ◌≤ℤ◌};
 ghost use Rattle.book.specs.Meaning.{Book, Lawful, least_price, most_price};

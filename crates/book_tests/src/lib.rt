@@ -1,4 +1,5 @@
 // Tests of the house book, of the bounded book over it, and of the table network, on small inputs.
+#![tactic(auto)]
 
 #[cfg(test)]
 mod bounding;

@@ -1,4 +1,5 @@
 // The bounded book: mitigation over any offer book, and an offer book again.
+#![tactic(auto)]
 
 mod bounded;
 mod layer;

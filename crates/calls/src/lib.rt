@@ -1,4 +1,5 @@
 // The calls of a run, as plain values: nothing about them is checked yet.
+#![tactic(auto)]
 
 mod call;
 mod given;

@@ -1,4 +1,5 @@
 // The checks of a proposal for one step, over any book and network, in their order, and those of base points alone.
+#![tactic(auto)]
 
 mod forming;
 mod held;

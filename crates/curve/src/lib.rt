@@ -1,4 +1,5 @@
 // Completed offer curves: the line price of points, and the curve that each class of row gets.
+#![tactic(auto)]
 
 mod complete;
 mod curve;

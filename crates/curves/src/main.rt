@@ -1,5 +1,6 @@
 // Reads a house book or a block book from standard input, with mitigation terms and reference
 // prices, and prints the offer curve of each participant, or one line that says why there are none.
+#![tactic(auto)]
 
 mod corners;
 mod input;

@@ -1,4 +1,5 @@
 // A dispatch, one base point a participant, and what it injects into a network.
+#![tactic(auto)]
 
 mod dispatch;
 mod injecting;

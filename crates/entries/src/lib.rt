@@ -1,5 +1,6 @@
 // The lines of a script that describe a market, read from the words after their first: rows, blocks, shares of a
 // line, and reference prices.
+#![tactic(auto)]
 
 mod blocks;
 mod line;

@@ -1,4 +1,5 @@
 // Whether a dispatch is feasible for a step, as the first place where it is not.
+#![tactic(auto)]
 
 mod balancing;
 mod constraints;

@@ -1,4 +1,5 @@
 // Tests of injections and flows: who injects what where, and the ends of the ranges.
+#![tactic(auto)]
 
 #[cfg(test)]
 mod sample;

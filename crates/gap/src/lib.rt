@@ -1,4 +1,5 @@
 // The gap of a dispatch: by how much a feasible one could be worth more at most.
+#![tactic(auto)]
 
 mod certificate;
 mod forgoing;

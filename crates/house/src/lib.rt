@@ -1,4 +1,5 @@
 // The house book: an offer book loaded from an offer cap and rows.
+#![tactic(auto)]
 
 mod house;
 mod loading;

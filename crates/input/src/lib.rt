@@ -1,4 +1,5 @@
 // What a script says: a book and the lines of a network, and then the calls of a run with what is asked between them.
+#![tactic(auto)]
 
 mod asked;
 mod flaw;

@@ -1,4 +1,5 @@
 // What a dispatch is worth, what it forgoes, and the laws that make its gap a certificate.
+#![tactic(auto)]
 
 mod nodal;
 mod quote;

@@ -1,4 +1,5 @@
 // Networks: injections at buses, and the flows on lines that they make.
+#![tactic(auto)]
 
 mod answers;
 mod flow;

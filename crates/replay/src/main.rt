@@ -1,5 +1,6 @@
 // Reads a script from standard input, an offer cap, the rows of a house book, the lines of a network
 // and base points, and prints the flow on each line for each list of base points.
+#![tactic(auto)]
 
 mod input;
 mod limits;

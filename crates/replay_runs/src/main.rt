@@ -1,5 +1,6 @@
 // Reads a script from standard input, an offer book, the lines of a network, and the calls of a run with what is asked
 // between them, and prints the answers.
+#![tactic(auto)]
 
 mod answering;
 mod listing;

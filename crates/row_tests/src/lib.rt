@@ -1,4 +1,5 @@
 // Tests of the rules of rows, each limit from both sides, and of the prices of completed curves.
+#![tactic(auto)]
 
 #[cfg(test)]
 mod order;

@@ -1,4 +1,5 @@
 // The rows of a house offer book as they are submitted, and the rules that they are held to.
+#![tactic(auto)]
 
 mod cap;
 mod class;

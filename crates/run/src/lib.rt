@@ -1,4 +1,5 @@
 // The run: it takes calls in any order over any book and network, and holds only what it can certify.
+#![tactic(auto)]
 
 mod limiting;
 mod making;

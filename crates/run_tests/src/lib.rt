@@ -1,4 +1,5 @@
 // Tests of runs on the two-unit market of the documents.
+#![tactic(auto)]
 
 #[cfg(test)]
 mod causes;

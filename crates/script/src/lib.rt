@@ -1,5 +1,6 @@
 // The lines of a script: each is read into a statement, or told what is wrong with its form.
 // A later kind of line is a variant of `Statement` and a function that reads its words.
+#![tactic(auto)]
 
 mod base;
 mod block;

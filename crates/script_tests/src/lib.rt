@@ -1,4 +1,5 @@
 // Tests of the lines of a script.
+#![tactic(auto)]
 
 #[cfg(test)]
 mod tests;

@@ -1,4 +1,5 @@
 // A line of text that is written piece by piece, with no heap, and then copied where it belongs.
+#![tactic(auto)]
 
 mod line;
 #[cfg(test)]

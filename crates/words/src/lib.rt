@@ -1,4 +1,5 @@
 // The words of a script's lines: how they are taken, which numbers they write, and what can be wrong with them.
+#![tactic(auto)]
 
 mod line;
 mod mistake;

@@ -1,5 +1,6 @@
 // The worked examples of the documents, gathered in one list and proved to follow from the
 // definitions.
+#![tactic(auto)]
 
 ghost use Rattle.std.specs.Prelude.{◌≡◌, length};
 ghost use Rattle.worked.specs.Examples.{examples, AllHold};
