@@ -10,8 +10,8 @@ ahead : (k : Rule) (rows : List BlockRow) (i : ℕ) → i < length rows → faul
 unfolding fault_from
 ahead k rows i h = rw add-one (rw add-one at (at_drop_more (fault_from k i) rows i blank h))
 
-pub returns-then-broken-by : goal.returns-then-broken-by
-returns-then-broken-by c =
+pub returns-then-broken_by : goal.returns-then-broken_by
+returns-then-broken_by c =
     let h = ahead c.args.rule c.args.rows.now c.loop-place.place (omega arith) in
     grind arith
 

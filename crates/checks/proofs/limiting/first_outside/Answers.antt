@@ -7,8 +7,8 @@ use Rattle.checks.proofs.limiting.first_outside.Goals as goal
 pub loop-participant-init : goal.loop-participant-init
 loop-participant-init g c = first_none _
 
-pub returns-then-is-beyond : goal.returns-then-is-beyond
-returns-then-is-beyond g c =
+pub returns-then-is_beyond : goal.returns-then-is_beyond
+returns-then-is_beyond g c =
     sym (first_found (outside (g.B.OfferBook.meaning c.args.book.now) (pointed c.args.points.now)) c.loop-participant.participant _ c.loop-participant.invariant (search rules) (omega arith))
 
 pub loop-participant-preserved : goal.loop-participant-preserved

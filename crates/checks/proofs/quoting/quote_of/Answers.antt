@@ -7,6 +7,6 @@ use Rattle.checks.proofs.quoting.quote_of.Goals as goal
 
 pub unreachable-requires : goal.unreachable-requires
 unreachable-requires c =
-    let us = c.as-slice-2.result.now in
+    let us = c.as_slice-2.result.now in
     let none : first_place (dear us) (length us) ≡ None = search rules in
-    true≢false (sym (all_quotable (to_z w32 (of_z w32 c.args.proposal.now.system)) us c.if-proposal-ltminus1000000.false c.if-proposal-gt1000000.false c.as-slice-2.ensures.few none) ∙ c.in-None.ensures)
+    true≢false (sym (all_quotable (to_z w32 (of_z w32 c.args.proposal.now.system)) us c.if-proposal-ltminus1000000.false c.if-proposal-gt1000000.false c.as_slice-2.ensures.few none) ∙ c.in-None.ensures)

@@ -49,7 +49,7 @@ loop-point-init c =
 
 pub returns-then-level-point : goal.returns-then-level-point
 returns-then-level-point c =
-    to_z-of_z w32 _ (record { sfits = c.price-between.type-inv }) ∙ c.price-between.ensures
+    to_z-of_z w32 _ (record { sfits = c.price_between.type_inv }) ∙ c.price_between.ensures
     ∙ sym (c.loop-point.invariant.0 ∙ here c.loop-point.before _ c.loop-point.point-index c.args.level c.loop-point-test.true c.if-level-point.true)
 
 pub loop-point-preserved : goal.loop-point-preserved

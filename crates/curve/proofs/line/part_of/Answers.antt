@@ -28,14 +28,14 @@ overflow-mul-rise c =
     rw (to_z-of_z w64 c.args.rise c.ranges.rise, plain c.args.along (omega arith))
     (product_fits c.args.rise c.args.along c.requires.fits.0 c.requires.fits.1 (omega arith))
 
-pub div-euclid-requires : goal.div-euclid-requires
-div-euclid-requires c = rw (plain c.args.run (omega arith)) (record { nonzero = omega arith; fits = λ e f. omega arith })
+pub div_euclid-requires : goal.div_euclid-requires
+div_euclid-requires c = rw (plain c.args.run (omega arith)) (record { nonzero = omega arith; fits = λ e f. omega arith })
 
 pub returns : goal.returns
 returns c =
     let fit = product_fits c.args.rise c.args.along c.requires.fits.0 c.requires.fits.1 (omega arith) in
-    let e = rw (to_z-of_z w64 c.args.rise c.ranges.rise, plain c.args.along (omega arith), to_z-of_z w64 _ fit, plain c.args.run (omega arith), floor_is) at c.div-euclid.ensures in
-    rw (to_z-of_z w64 c.div-euclid.result (record { sfits = c.div-euclid.type-inv }), e)
+    let e = rw (to_z-of_z w64 c.args.rise c.ranges.rise, plain c.args.along (omega arith), to_z-of_z w64 _ fit, plain c.args.run (omega arith), floor_is) at c.div_euclid.ensures in
+    rw (to_z-of_z w64 c.div_euclid.result (record { sfits = c.div_euclid.type_inv }), e)
     (record {
       value = refl;
       up = λ h. part_up c.args.rise c.args.along c.args.run h c.requires.within.0;

@@ -18,16 +18,16 @@ module _ (c : goal.After-struct-told-3·1) where
   to_fits : SFits w32 c.args.to.price
   to_fits = search rules
 
-  part_is : c.part-of-part.result ≡ floor_div ((c.args.to.price -ℤ c.args.from.price) *ℤ pos (c.args.level - c.args.from.level)) (c.args.to.level - c.args.from.level)
+  part_is : c.part_of-part.result ≡ floor_div ((c.args.to.price -ℤ c.args.from.price) *ℤ pos (c.args.level - c.args.from.level)) (c.args.to.level - c.args.from.level)
   part_is =
       let a = from_fits in
       let b = to_fits in
       let a2 : SFits w64 c.args.from.price = omega (arith, ints) in
       let b2 : SFits w64 c.args.to.price = omega (arith, ints) in
       let d : SFits w64 (c.args.to.price -ℤ c.args.from.price) = omega (arith, ints) in
-      simp to_z-of_z at c.part-of-part.ensures.value
+      simp to_z-of_z at c.part_of-part.ensures.value
 
-  total_fits : SFits w32 (c.args.from.price +ℤ c.part-of-part.result)
+  total_fits : SFits w32 (c.args.from.price +ℤ c.part_of-part.result)
   total_fits = rw part_is (sum_fits _ _ _ _ from_fits to_fits (omega arith))
 
 pub overflow-add-result : goal.overflow-add-result
@@ -41,5 +41,5 @@ unfolding between
 returns c =
     let a = from_fits c in
     let t = total_fits c in
-    let e : _ ≡ c.args.from.price +ℤ c.part-of-part.result = omega (arith, ints) in
+    let e : _ ≡ c.args.from.price +ℤ c.part_of-part.result = omega (arith, ints) in
     e ∙ ap (λ z. c.args.from.price +ℤ z) (part_is c)

@@ -44,10 +44,10 @@ returns-in-err-term g c =
 pub loop-line-preserved : goal.loop-line-preserved
 loop-line-preserved g c =
     let e = c.in-ok-term.ensures in (
-      c.set-term.ensures.same ∙ c.loop-line.invariant.0,
+      c.set_term.ensures.same ∙ c.loop-line.invariant.0,
       c.loop-line.invariant.1 ∙ passes c.args.count c.args.terms.now c.loop-line.line-index (omega arith) e.0,
       c.loop-line.invariant.2
-          ∙ sets (layer_of c.loop-line.book.table) (layer_of c.set-term.new.self.table) (terms_of c.in-ok-term.term) c.args.terms.now c.loop-line.line-index (omega arith) e.1 c.set-term.ensures.layer,
+          ∙ sets (layer_of c.loop-line.book.table) (layer_of c.set_term.new.self.table) (terms_of c.in-ok-term.term) c.args.terms.now c.loop-line.line-index (omega arith) e.1 c.set_term.ensures.layer,
     )
 
 pub returns : goal.returns

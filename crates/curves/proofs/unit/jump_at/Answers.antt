@@ -24,15 +24,15 @@ passes x y e = ap (λ b. b || y) (sym e)
 pub loop-point-init : goal.loop-point-init
 loop-point-init c = past_first c.args.at c.args.to c.args.points.now (search rules)
 
-pub returns-then-jump-over : goal.returns-then-jump-over
-returns-then-jump-over c =
+pub returns-then-jump_over : goal.returns-then-jump_over
+returns-then-jump_over c =
     let h = ahead c.args.at c.args.to c.loop-point.before _ c.loop-point.point-index c.loop-point-test.true in
-    sym (c.loop-point.invariant ∙ h ∙ takes _ _ c.if-jump-over.ensures)
+    sym (c.loop-point.invariant ∙ h ∙ takes _ _ c.if-jump_over.ensures)
 
 pub loop-point-preserved : goal.loop-point-preserved
 loop-point-preserved c =
     let h = ahead c.args.at c.args.to c.loop-point.before _ c.loop-point.point-index c.loop-point-test.true in
-    c.loop-point.invariant ∙ h ∙ passes _ _ c.if-jump-over.ensures
+    c.loop-point.invariant ∙ h ∙ passes _ _ c.if-jump_over.ensures
 
 pub returns : goal.returns
 unfolding jump_past

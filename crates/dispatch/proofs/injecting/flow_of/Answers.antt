@@ -13,7 +13,7 @@ returns g c =
     let n = g.N.Network.meaning c.args.network.now in
     let x = base_of c.args.dispatch.now in
     let value : to_z w64 (of_z w64 c.flow.result) ≡ dispatch_flow m n x c.args.line =
-    to_z-of_z w64 _ (record { sfits = c.flow.type-inv }) ∙ c.flow.ensures
-    ∙ sum_same 64 (λ b. n.share c.args.line b *ℤ sheet_of c.injections-of-sheet.result b) (λ b. n.share c.args.line b *ℤ injected m x b)
-    (λ b _. ap (λ z. n.share c.args.line b *ℤ z) (c.injections-of-sheet.ensures b)) in
+    to_z-of_z w64 _ (record { sfits = c.flow.type_inv }) ∙ c.flow.ensures
+    ∙ sum_same 64 (λ b. n.share c.args.line b *ℤ sheet_of c.injections_of-sheet.result b) (λ b. n.share c.args.line b *ℤ injected m x b)
+    (λ b _. ap (λ z. n.share c.args.line b *ℤ z) (c.injections_of-sheet.ensures b)) in
     record { value = value; exchanged = value ∙ flows_agree m n x c.args.line (g.met.B.OfferBook.buses c.args.book.now) }

@@ -15,7 +15,7 @@ pub amount-amount-requires : goal.amount-amount-requires
 amount-amount-requires g c =
     let m = g.B.OfferBook.meaning c.args.book.now in
     let range = side_range m (g.met.B.OfferBook.lawful c.args.book.now) c.loop-participant.participant in
-    let e = to_z-of_z w8 _ (record { sfits = c.side.type-inv }) ∙ c.side.ensures in
+    let e = to_z-of_z w8 _ (record { sfits = c.side.type_inv }) ∙ c.side.ensures in
     record { side = rw e range; base = c.base.ensures.most }
 
 pub add-requires : goal.add-requires
@@ -39,8 +39,8 @@ loop-participant-preserved g c b =
     let x = base_of c.args.dispatch.now in
     let n = c.loop-participant.participant in
     let amount : to_z w32 (of_z w32 c.amount-amount.result) ≡ injection m x n =
-    to_z-of_z w32 _ (record { sfits = c.amount-amount.type-inv }) ∙ c.amount-amount.ensures.value
-    ∙ (rw (to_z-of_z w8 c.side.result (record { sfits = c.side.type-inv }), c.side.ensures, c.base.ensures.value)) in
+    to_z-of_z w32 _ (record { sfits = c.amount-amount.type_inv }) ∙ c.amount-amount.ensures.value
+    ∙ (rw (to_z-of_z w8 c.side.result (record { sfits = c.side.type_inv }), c.side.ensures, c.base.ensures.value)) in
     c.add.ensures b
     ∙ ap (λ z. cond (eqb b c.bus.result) (sheet_of c.loop-participant.sheet b +ℤ z) (sheet_of c.loop-participant.sheet b)) amount
     ∙ ap (λ k. cond (eqb b k) (sheet_of c.loop-participant.sheet b +ℤ injection m x n) (sheet_of c.loop-participant.sheet b)) c.bus.ensures

@@ -26,5 +26,5 @@ loop-participant-preserved g c =
     let l = inv.1 in
     let h = inv.2 in
     let fit : SFits w64 (t +ℤ r) = omega (arith, ints) in
-    rw (c.loop-participant.total-is, to_z-of_z w64 r (record { sfits = c.injection-total.type-inv }), to_z-of_z w64 (t +ℤ r) fit)
+    rw (c.loop-participant.total-is, to_z-of_z w64 r (record { sfits = c.injection-total.type_inv }), to_z-of_z w64 (t +ℤ r) fit)
     (omega (arith, ints), omega (arith, ints), omega (arith, ints))

@@ -13,8 +13,8 @@ module _ (a b x y : ℤ) (fa : SFits w64 a) (fb : SFits w64 b) (first : a ≡ x)
 
 pub returns : goal.returns
 returns g c =
-    let fa : SFits w64 c.balance.result = record { sfits = c.balance.type-inv } in
-    let fb : SFits w64 c.due.result = record { sfits = c.due.type-inv } in
+    let fa : SFits w64 c.balance.result = record { sfits = c.balance.type_inv } in
+    let fb : SFits w64 c.due.result = record { sfits = c.due.type_inv } in
     record {
       yes = λ t. equal _ _ _ _ fa fb c.balance.ensures.value (c.due.ensures t);
       no = λ t. unequal _ _ _ _ fa fb c.balance.ensures.value (c.due.ensures t);

@@ -14,5 +14,5 @@ returns-then-observes g c =
     let f = flow_of n c.args.line (sheet_of c.args.sheet.now) in
     let taken : c.observes.result ≡ true = search rules in
     let seen : s.observed c.args.line ≡ true = sym c.observes.ensures ∙ taken in
-    rw (to_z-of_z w64 c.room.result (record { sfits = c.room.type-inv }), to_z-of_z w64 c.flow.result (record { sfits = c.flow.type-inv }), c.room.ensures.value c.args.stage, c.flow.ensures)
+    rw (to_z-of_z w64 c.room.result (record { sfits = c.room.type_inv }), to_z-of_z w64 c.flow.result (record { sfits = c.flow.type_inv }), c.room.ensures.value c.args.stage, c.flow.ensures)
     (sym (ap (λ t. t && lt_z (room s c.args.line) f) seen))

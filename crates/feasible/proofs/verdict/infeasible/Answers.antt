@@ -13,8 +13,8 @@ returns-then-not-balanced g c =
     let within : Everywhere m.count (Within m x) = search rules in
     (within, c.balanced.ensures.no c.args.stage (search rules))
 
-pub returns-in-Some-first-overloaded : goal.returns-in-Some-first-overloaded
-returns-in-Some-first-overloaded g c =
+pub returns-in-Some-first_overloaded : goal.returns-in-Some-first_overloaded
+returns-in-Some-first_overloaded g c =
     let m = g.B.OfferBook.meaning c.args.book.now in
     let x = base_of c.args.dispatch.now in
     let within : Everywhere m.count (Within m x) = search rules in

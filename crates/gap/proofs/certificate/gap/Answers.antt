@@ -34,8 +34,8 @@ returns g c =
     let b = c.slacks.result in
     let few = g.met.B.OfferBook.few c.args.book.now in
     let forgone : Total m n p x m.count a = search rules in
-    let is : b ≡ sum n.lines (slack m n s p x) = c.slacks.ensures.value ∙ slacks_agree m n s p x (sheet_of c.injections-of-sheet.result) c.injections-of-sheet.ensures in
+    let is : b ≡ sum n.lines (slack m n s p x) = c.slacks.ensures.value ∙ slacks_agree m n s p x (sheet_of c.injections_of-sheet.result) c.injections_of-sheet.ensures in
     let l = c.slacks.ensures.least in
     let h = c.slacks.ensures.most in
-    rw (to_z-of_z w64 a (one m n s p x a b few forgone is l h), to_z-of_z w64 b (record { sfits = c.slacks.type-inv }), to_z-of_z w64 (a +ℤ b) (fits m n s p x a b few forgone is l h))
+    rw (to_z-of_z w64 a (one m n s p x a b few forgone is l h), to_z-of_z w64 b (record { sfits = c.slacks.type_inv }), to_z-of_z w64 (a +ℤ b) (fits m n s p x a b few forgone is l h))
     (certified m n s p x (a +ℤ b) (g.met.B.OfferBook.lawful c.args.book.now) (whole m n s p x a b few forgone is l h))

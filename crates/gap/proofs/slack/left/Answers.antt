@@ -29,7 +29,7 @@ overflow-sub-result g c =
     let f = flow_of n k (sheet_of sheet) in
     let low = flow_least n k (sheet_of sheet) (g.met.N.Network.least c.args.network.now k) (g.met.N.Network.most c.args.network.now k) sheet.least sheet.most in
     let high = flow_most n k (sheet_of sheet) (g.met.N.Network.least c.args.network.now k) (g.met.N.Network.most c.args.network.now k) sheet.least sheet.most in
-    rw (to_z-of_z w64 c.room.result (record { sfits = c.room.type-inv }), to_z-of_z w64 c.flow.result (record { sfits = c.flow.type-inv }))
+    rw (to_z-of_z w64 c.room.result (record { sfits = c.room.type_inv }), to_z-of_z w64 c.flow.result (record { sfits = c.flow.type_inv }))
     (fits c.room.result c.flow.result f c.flow.ensures c.room.ensures.least c.room.ensures.most low high)
 
 pub returns : goal.returns
@@ -45,7 +45,7 @@ returns g c =
     let is = c.flow.ensures in
     let l = c.room.ensures.least in
     let h = c.room.ensures.most in
-    rw (to_z-of_z w64 a (record { sfits = c.room.type-inv }), to_z-of_z w64 r (record { sfits = c.flow.type-inv }), to_z-of_z w64 (a -ℤ r) (fits a r f is l h low high))
+    rw (to_z-of_z w64 a (record { sfits = c.room.type_inv }), to_z-of_z w64 r (record { sfits = c.flow.type_inv }), to_z-of_z w64 (a -ℤ r) (fits a r f is l h low high))
     (record {
       value = λ t. left a r f is l h low high (room (step_of c.args.constraints.now t) k) (c.room.ensures.value t);
       least = lower a r f is l h low high;

@@ -18,8 +18,8 @@ returns-then-observes g c =
     let seen : s.observed k ≡ true = sym c.observes.ensures ∙ taken in
     let rest : ℤ = p.shadow k *ℤ (room s k -ℤ flow_of n k (sheet_of c.args.sheet.now)) in
     let part : c.priced.result ≡ rest =
-    c.priced.ensures.value ∙ (rw (to_z-of_z w64 c.left.result (record { sfits = c.left.type-inv }), c.left.ensures.value c.args.stage, c.shadow.ensures.value)) in
-    rw (to_z-of_z w64 c.priced.result (record { sfits = c.priced.type-inv }))
+    c.priced.ensures.value ∙ (rw (to_z-of_z w64 c.left.result (record { sfits = c.left.type_inv }), c.left.ensures.value c.args.stage, c.shadow.ensures.value)) in
+    rw (to_z-of_z w64 c.priced.result (record { sfits = c.priced.type_inv }))
     (record {
       value = part ∙ sym (ap (λ t. cond t rest (pos 0)) seen);
       least = c.priced.ensures.least;

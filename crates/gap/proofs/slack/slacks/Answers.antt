@@ -27,5 +27,5 @@ loop-line-preserved g c =
     let l = inv.1 in
     let h = inv.2 in
     let fit : SFits w64 (t +ℤ r) = omega (arith, ints) in
-    rw (c.loop-line.total-is, to_z-of_z w64 r (record { sfits = c.slack-total.type-inv }), to_z-of_z w64 (t +ℤ r) fit)
+    rw (c.loop-line.total-is, to_z-of_z w64 r (record { sfits = c.slack-total.type_inv }), to_z-of_z w64 (t +ℤ r) fit)
     (omega (arith, ints), omega (arith, ints), omega (arith, ints))

@@ -8,7 +8,7 @@ pub loop-i-preserved : goal.loop-i-preserved
 loop-i-preserved c =
     let i = c.loop-i.i in
     let us = c.loop-i.units in
-    let w = c.args.offer-cap.cents in (
+    let w = c.args.offer_cap.cents in (
       length-set us i _ ∙ c.loop-i.invariant.0,
       below_more _ _
           (λ k h. let ne : k ≢ i = omega arith in

@@ -11,8 +11,8 @@ returns g c =
     let q = c.args.quote.now in
     let a = q.least in
     let b = q.most in
-    let l = c.shadow-sum.ensures.least in
-    let h = c.shadow-sum.ensures.most in
-    let v : c.shadow-sum.result ≡ shadow_sum n (prices_of q) (m.bus c.args.participant) n.lines =
-    c.shadow-sum.ensures.value ∙ ap (λ k. shadow_sum n (prices_of q) k n.lines) c.bus.ensures in
+    let l = c.shadow_sum.ensures.least in
+    let h = c.shadow_sum.ensures.most in
+    let v : c.shadow_sum.result ≡ shadow_sum n (prices_of q) (m.bus c.args.participant) n.lines =
+    c.shadow_sum.ensures.value ∙ ap (λ k. shadow_sum n (prices_of q) k n.lines) c.bus.ensures in
     record { value = omega (arith, ints); least = omega (arith, ints); most = omega (arith, ints) }

@@ -26,7 +26,7 @@ loop-line-preserved g c =
     let few = g.met.N.Network.few c.args.network.now in
     let count = c.lines-line-end.ensures in
     let more : sum (k + 1) f ≡ sum k f +ℤ f k = rw add-one (sum_more k f) in
-    let fit : SFits w16 c.share.result = record { sfits = c.share.type-inv } in
+    let fit : SFits w16 c.share.result = record { sfits = c.share.type_inv } in
     let part : c.part-total.result ≡ f k =
     c.part-total.ensures.value ∙ (rw (to_z-of_z w16 c.share.result fit, c.share.ensures, c.shadow.ensures.value)) in
     let e = c.loop-line.invariant.0 in

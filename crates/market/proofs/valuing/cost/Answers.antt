@@ -27,7 +27,7 @@ loop-below-preserved g c =
     let most = g.met.B.OfferBook.most c.args.book.now i (q + 1) in
     let high = g.met.B.OfferBook.highest c.args.book.now i in
     let limit = g.met.B.OfferBook.limits c.args.book.now i in
-    let fits : SFits w32 c.price.result = record { sfits = c.price.type-inv } in
+    let fits : SFits w32 c.price.result = record { sfits = c.price.type_inv } in
     (omega (arith, ints), omega arith, omega arith, omega (arith, ints), omega (arith, ints))
 
 pub returns : goal.returns

@@ -33,9 +33,9 @@ loop-participant-preserved g c =
     let f : ℕ → ℤ = λ i. neg_ℤ (m.side i *ℤ cost m i (x i)) in
     let few : n < 64 = let a = g.met.B.OfferBook.few c.args.book.now in let b = c.count-participant-end.ensures in omega arith in
     let more : sum (n + 1) f ≡ sum n f +ℤ f n = rw add-one (sum_more n f) in
-    let fit : SFits w8 c.side.result = record { sfits = c.side.type-inv } in
-    let fit2 : SFits w64 c.cost-cost.result = record { sfits = c.cost-cost.type-inv } in
-    let fit3 : SFits w64 c.sided-total.result = record { sfits = c.sided-total.type-inv } in
+    let fit : SFits w8 c.side.result = record { sfits = c.side.type_inv } in
+    let fit2 : SFits w64 c.cost-cost.result = record { sfits = c.cost-cost.type_inv } in
+    let fit3 : SFits w64 c.sided-total.result = record { sfits = c.sided-total.type_inv } in
     let part : c.sided-total.result ≡ m.side n *ℤ cost m n (x n) =
     c.sided-total.ensures.value
     ∙ (rw (to_z-of_z w8 c.side.result fit, to_z-of_z w64 c.cost-cost.result fit2, c.side.ensures, c.cost-cost.ensures.value, c.base.ensures.value)) in
@@ -65,8 +65,8 @@ returns g c =
 pub sided-total-requires : goal.sided-total-requires
 sided-total-requires g c =
     let range = side_range (g.B.OfferBook.meaning c.args.book.now) (g.met.B.OfferBook.lawful c.args.book.now) c.loop-participant.participant in
-    let fit : SFits w8 c.side.result = record { sfits = c.side.type-inv } in
-    let fit2 : SFits w64 c.cost-cost.result = record { sfits = c.cost-cost.type-inv } in
+    let fit : SFits w8 c.side.result = record { sfits = c.side.type_inv } in
+    let fit2 : SFits w64 c.cost-cost.result = record { sfits = c.cost-cost.type_inv } in
     let l = c.cost-cost.ensures.least in
     let h = c.cost-cost.ensures.most in
     let wide : negsuc 33999999999 ≤ℤ c.cost-cost.result = omega (arith, ints) in
@@ -76,7 +76,7 @@ sided-total-requires g c =
 
 pub overflow-sub-total : goal.overflow-sub-total
 overflow-sub-total g c =
-    let fit : SFits w64 c.sided-total.result = record { sfits = c.sided-total.type-inv } in
+    let fit : SFits w64 c.sided-total.result = record { sfits = c.sided-total.type_inv } in
     let few : c.loop-participant.participant < 64 = let a = g.met.B.OfferBook.few c.args.book.now in let b = c.count-participant-end.ensures in omega arith in
     let inv = rw c.loop-participant.total-is at c.loop-participant.invariant in
     rw (c.loop-participant.total-is, to_z-of_z w64 c.sided-total.result fit)

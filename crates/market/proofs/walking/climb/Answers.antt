@@ -46,7 +46,7 @@ loop-level-preserved g c =
     let t = c.loop-level.total in
     let r = c.gain-next.result in
     let fl : SFits w64 c.args.lmp = c.ranges.lmp in
-    let fr : SFits w64 r = record { sfits = c.gain-next.type-inv } in
+    let fr : SFits w64 r = record { sfits = c.gain-next.type_inv } in
     let inv = rw (to_z-of_z w64 c.args.lmp fl, c.loop-level.total-is) at c.loop-level.invariant in
     let high = g.met.B.OfferBook.highest c.args.book.now i in
     let under : q < m.high i = let a = c.high-high.ensures in omega arith in
@@ -63,7 +63,7 @@ returns-then-next-le0 g c =
     let i = c.args.participant in
     let q = c.loop-level.level in
     let fl : SFits w64 c.args.lmp = c.ranges.lmp in
-    let fr : SFits w64 c.gain-next.result = record { sfits = c.gain-next.type-inv } in
+    let fr : SFits w64 c.gain-next.result = record { sfits = c.gain-next.type_inv } in
     let inv = rw (to_z-of_z w64 c.args.lmp fl, c.loop-level.total-is) at c.loop-level.invariant in
     let v : c.gain-next.result ≡ gain_at m c.args.lmp i (suc q) = c.gain-next.ensures.value ∙ (rw (to_z-of_z w64 c.args.lmp fl, add-one)) in
     let n : gain_at m c.args.lmp i (suc q) ≤ℤ pos 0 = let a = c.if-next-le0.true in subst (λ z. z ≤ℤ pos 0) v (omega (arith, ints)) in

@@ -60,7 +60,7 @@ loop-level-preserved g c =
     let t = c.loop-level.total in
     let r = c.gain-last.result in
     let fl : SFits w64 c.args.lmp = c.ranges.lmp in
-    let fr : SFits w64 r = record { sfits = c.gain-last.type-inv } in
+    let fr : SFits w64 r = record { sfits = c.gain-last.type_inv } in
     let inv = rw (to_z-of_z w64 c.args.lmp fl, c.loop-level.total-is) at c.loop-level.invariant in
     let high : c.args.from ≤ 20000 = let a = g.met.B.OfferBook.highest c.args.book.now i in let b = c.requires.from.1 in omega arith in
     let low : m.low i < q = let a = c.low-low.ensures in omega arith in
@@ -75,7 +75,7 @@ returns-then-last-ge0 g c =
     let i = c.args.participant in
     let q = c.loop-level.level in
     let fl : SFits w64 c.args.lmp = c.ranges.lmp in
-    let fr : SFits w64 c.gain-last.result = record { sfits = c.gain-last.type-inv } in
+    let fr : SFits w64 c.gain-last.result = record { sfits = c.gain-last.type_inv } in
     let inv = rw (to_z-of_z w64 c.args.lmp fl, c.loop-level.total-is) at c.loop-level.invariant in
     let high : c.args.from ≤ 20000 = let a = g.met.B.OfferBook.highest c.args.book.now i in let b = c.requires.from.1 in omega arith in
     let v : c.gain-last.result ≡ gain_at m c.args.lmp i q = c.gain-last.ensures.value ∙ (rw (to_z-of_z w64 c.args.lmp fl)) in

@@ -9,8 +9,8 @@ ahead : (m : Book) (qs : List ℕ) (i : ℕ) → i < length qs → limit_fault m
 unfolding limit_fault
 ahead m qs i h = rw add-one (rw add-one at (at_drop_more (limit_fault m i) qs i 0 h))
 
-pub returns-then-is-outside : goal.returns-then-is-outside
-returns-then-is-outside g c =
+pub returns-then-is_outside : goal.returns-then-is_outside
+returns-then-is_outside g c =
     let h = ahead (g.B.OfferBook.meaning c.args.book.now) c.args.points.now c.loop-place.place (omega arith) in
     grind arith
 

@@ -12,18 +12,18 @@ ahead : (w : ℕ) (k : Rule) (rows : List Row) (i : ℕ) → i < length rows →
 unfolding fault_from
 ahead w k rows i h = rw add-one (rw add-one at (at_drop_more (fault_from w k i) rows i blank h))
 
-pub returns-then-broken-by : goal.returns-then-broken-by
-returns-then-broken-by c =
-    let h = ahead c.args.offer-cap.cents c.args.rule c.args.rows.now c.loop-place.place (omega arith) in
+pub returns-then-broken_by : goal.returns-then-broken_by
+returns-then-broken_by c =
+    let h = ahead c.args.offer_cap.cents c.args.rule c.args.rows.now c.loop-place.place (omega arith) in
     grind arith
 
 pub loop-place-preserved : goal.loop-place-preserved
 loop-place-preserved c =
-    let h = ahead c.args.offer-cap.cents c.args.rule c.args.rows.now c.loop-place.place (omega arith) in
+    let h = ahead c.args.offer_cap.cents c.args.rule c.args.rows.now c.loop-place.place (omega arith) in
     grind arith
 
 pub returns : goal.returns
 unfolding fault_from
 returns c =
     c.loop-place.invariant
-    ∙ at_drop_all (fault_from c.args.offer-cap.cents c.args.rule c.loop-place.place) c.args.rows.now c.loop-place.place (omega arith)
+    ∙ at_drop_all (fault_from c.args.offer_cap.cents c.args.rule c.loop-place.place) c.args.rows.now c.loop-place.place (omega arith)

@@ -5,4 +5,4 @@ use Rattle.rows.proofs.rule.hold.Given as goal
 -- what is left decides
 abbrev pub invariant-loop-place : goal.invariant-loop-place
 invariant-loop-place l =
-    fault_from l.offer-cap.cents l.rule 0 l.rows ≡ fault_from l.offer-cap.cents l.rule l.place (drop l.place l.rows)
+    fault_from l.offer_cap.cents l.rule 0 l.rows ≡ fault_from l.offer_cap.cents l.rule l.place (drop l.place l.rows)

@@ -15,9 +15,9 @@ same_prices w r c k q =
 
 pub returns : goal.returns
 returns c =
-    let k : Completes c.args.offer-cap.cents c.args.row.now _ = record { class_is = search rules; hsl_is = search rules; points_are = c.completed.ensures } in
+    let k : Completes c.args.offer_cap.cents c.args.row.now _ = record { class_is = search rules; hsl_is = search rules; points_are = c.completed.ensures } in
     record {
       value = k;
       prices = same_prices _ _ _ k;
-      sound = λ l. sound c.args.offer-cap.cents c.args.row.now c.args.offer-cap.least c.args.offer-cap.most l;
+      sound = λ l. sound c.args.offer_cap.cents c.args.row.now c.args.offer_cap.least c.args.offer_cap.most l;
     }

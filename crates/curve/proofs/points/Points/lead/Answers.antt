@@ -9,5 +9,5 @@ use Rattle.curve.proofs.points.Points.lead.Goals as goal
 pub returns : goal.returns
 returns c =
     let f : SFits w32 c.args.first.price = search rules in
-    let p : to_z w32 (of_z w32 c.min.result) ≡ int_min near_floor c.args.first.price = to_z-of_z w32 _ (record { sfits = c.min.type-inv }) ∙ (simp to_z-of_z at c.min.ensures.value) in
-    kept_both (listed c.args.self.now) _ _ c.push-if.ensures (c.push-if-2.ensures ∙ rw (p, c.saturating-sub.ensures))
+    let p : to_z w32 (of_z w32 c.min.result) ≡ int_min near_floor c.args.first.price = to_z-of_z w32 _ (record { sfits = c.min.type_inv }) ∙ (simp to_z-of_z at c.min.ensures.value) in
+    kept_both (listed c.args.self.now) _ _ c.push_if.ensures (c.push_if-2.ensures ∙ rw (p, c.saturating_sub.ensures))

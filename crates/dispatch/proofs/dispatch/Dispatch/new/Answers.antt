@@ -5,5 +5,5 @@ use Rattle.dispatch.proofs.dispatch.Dispatch.new.Goals as goal
 pub invariant-of-result : goal.invariant-of-result
 invariant-of-result c = (
   search rules,
-  ((λ i. subst (λ n. n ≤ 20000) (sym (c.padded.ensures i)) (reachable_each c.args.points.now (sym c.if-not-all-reachable.ensures) i)), tt),
+  ((λ i. subst (λ n. n ≤ 20000) (sym (c.padded.ensures i)) (reachable_each c.args.points.now (sym c.if-not-all_reachable.ensures) i)), tt),
 )

@@ -16,5 +16,5 @@ pub returns : goal.returns
 unfolding refusal_line
 returns c =
     let n = c.number.ensures.value in
-    simp (c.put-4.ensures, c.put-unsigned-2.ensures, c.put-3.ensures, c.put-2.ensures, c.letter.ensures, c.layer.ensures, c.put.ensures, c.put-unsigned.ensures, n, c.put-text.ensures, c.new-line.ensures, kept_more)
+    simp (c.put-4.ensures, c.put_unsigned-2.ensures, c.put-3.ensures, c.put-2.ensures, c.letter.ensures, c.layer.ensures, c.put.ensures, c.put_unsigned.ensures, n, c.put_text.ensures, c.new-line.ensures, kept_more)
     (kept_all (refusal_line c.args.self) (refusal_at_most c.args.self (omega arith) (search rules)))

@@ -12,41 +12,41 @@ use Rattle.house.proofs.unit.Unit.of.Goals as goal
 pub returns-in-err-class : goal.returns-in-err-class
 returns-in-err-class c = absurd (true≢false (ap is_err c.in-err-class.ensures ∙ c.requires Letter))
 
-module _ (c : goal.After-side-of) where
+module _ (c : goal.After-side_of) where
   class_is : class_of c.args.row.now.letter ≡ Ok c.in-ok-class.class
   class_is = sym c.in-ok-class.ensures
 
-  side_is : to_z w8 (of_z w8 c.side-of.result) ≡ side_of c.in-ok-class.class
-  side_is = to_z-of_z w8 _ (record { sfits = c.side-of.type-inv }) ∙ c.side-of.ensures
+  side_is : to_z w8 (of_z w8 c.side_of.result) ≡ side_of c.in-ok-class.class
+  side_is = to_z-of_z w8 _ (record { sfits = c.side_of.type_inv }) ∙ c.side_of.ensures
 
-  prices : (q : ℕ) → price_on c.in-ok-curve.curve q ≡ row_price c.args.offer-cap.cents c.args.row.now q
+  prices : (q : ℕ) → price_on c.in-ok-curve.curve q ≡ row_price c.args.offer_cap.cents c.args.row.now q
   prices = c.in-ok-curve.ensures.prices
 
-  lawful : Sound c.args.offer-cap.cents c.args.row.now
+  lawful : Sound c.args.offer_cap.cents c.args.row.now
   lawful = c.in-ok-curve.ensures.sound c.requires
 
   limits : (c.args.row.now.ldl ≤ c.args.row.now.hdl) × (c.args.row.now.hdl ≤ 20000)
-  limits = unit_limits c.args.offer-cap.cents c.args.row.now c.requires
+  limits = unit_limits c.args.offer_cap.cents c.args.row.now c.requires
 
 pub invariant-of-result : goal.invariant-of-result
 invariant-of-result c = (
-  unit_bus c.args.offer-cap.cents c.args.row.now c.requires,
+  unit_bus c.args.offer_cap.cents c.args.row.now c.requires,
   (
-    subst (λ s. (s *ℤ s) ≡ pos 1) (sym (side_is c)) (unit_sided c.args.offer-cap.cents c.args.row.now _ (class_is c)),
+    subst (λ s. (s *ℤ s) ≡ pos 1) (sym (side_is c)) (unit_sided c.args.offer_cap.cents c.args.row.now _ (class_is c)),
     (
       (limits c).0,
       (
         (limits c).1,
         (
-          subst (λ n. n ≤ 20000) (sym c.reading-of-reading.ensures) (unit_reading c.args.offer-cap.cents c.args.row.now c.requires),
+          subst (λ n. n ≤ 20000) (sym c.reading_of-reading.ensures) (unit_reading c.args.offer_cap.cents c.args.row.now c.requires),
           (
-            (λ g. c.reading-of-reading.ensures ∙ unit_unread c.args.offer-cap.cents c.args.row.now _ (class_is c) (sym (side_is c) ∙ g)),
+            (λ g. c.reading_of-reading.ensures ∙ unit_unread c.args.offer_cap.cents c.args.row.now _ (class_is c) (sym (side_is c) ∙ g)),
             (
               (λ q. subst (λ x. least_price ≤ℤ x) (sym (prices c q)) ((lawful c).least q)),
               (
                 (λ q. subst (λ x. x ≤ℤ most_price) (sym (prices c q)) ((lawful c).most q)),
                 (
-                  (λ p q h. rw (side_is c, prices c p, prices c q) (unit_moves c.args.offer-cap.cents c.args.row.now _ (class_is c) (lawful c) p q h)),
+                  (λ p q h. rw (side_is c, prices c p, prices c q) (unit_moves c.args.offer_cap.cents c.args.row.now _ (class_is c) (lawful c) p q h)),
                   tt,
                 ),
               ),

@@ -17,7 +17,7 @@ invariant-of-result c = (
     omega (arith, ints),
     (
       search rules,
-      ((λ k. subst (λ n. n ≤ 1000000) (sym (c.padded.ensures k)) (payable_each c.args.shadow.now (sym c.if-not-all-payable.ensures) k)), tt),
+      ((λ k. subst (λ n. n ≤ 1000000) (sym (c.padded.ensures k)) (payable_each c.args.shadow.now (sym c.if-not-all_payable.ensures) k)), tt),
     ),
   ),
 )

@@ -4,5 +4,5 @@ use Rattle.network.proofs.shares.Shares.new.Goals as goal
 
 pub invariant-of-result : goal.invariant-of-result
 invariant-of-result c =
-    let each = ranged_each c.args.at (sym c.if-in-range.ensures) in
+    let each = ranged_each c.args.at (sym c.if-in_range.ensures) in
     (search rules, ((λ b. (each b).0), ((λ b. (each b).1), tt)))

@@ -16,9 +16,9 @@ returns g c =
     let m = g.B.OfferBook.meaning run.book.book in
     let n = g.N.Network.meaning run.network in
     let set = c.refer.ensures.layer in
-    let there : (i : ℕ) → i < m.count → get_or c.references-of.result i (pos 0) ≡ reference m n (prices_of q) i =
-    let P : g.row.B.Denot → Type 0 = λ k. (i : ℕ) → i < (g.B.OfferBook.meaning k).count → get_or c.references-of.result i (pos 0) ≡ reference (g.B.OfferBook.meaning k) n (prices_of q) i in
-    subst P c.below.ensures c.references-of.ensures in
+    let there : (i : ℕ) → i < m.count → get_or c.references_of.result i (pos 0) ≡ reference m n (prices_of q) i =
+    let P : g.row.B.Denot → Type 0 = λ k. (i : ℕ) → i < (g.B.OfferBook.meaning k).count → get_or c.references_of.result i (pos 0) ≡ reference (g.B.OfferBook.meaning k) n (prices_of q) i in
+    subst P c.below.ensures c.references_of.ensures in
     let bounded : layered (g.B.OfferBook.meaning c.refer.new.self.book) (layer_of c.refer.new.self.table) ≡ layered m (layer_in m n (force_of run) (Some (held_of c.args.first.now))) =
     ap (λ k. layered (g.B.OfferBook.meaning k) (layer_of c.refer.new.self.table)) c.refer.ensures.same
     ∙ layered_same m (g.met.B.OfferBook.lawful run.book.book) (layer_of c.refer.new.self.table) (layer_in m n (force_of run) (Some (held_of c.args.first.now)))

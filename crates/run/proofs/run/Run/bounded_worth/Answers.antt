@@ -7,8 +7,8 @@ use Rattle.run.proofs.run.Run.bounded_worth.Goals as goal
 pub returns : goal.returns
 returns g c =
     record {
-      value = to_z-of_z w64 c.worth-worth.result (record { sfits = c.worth-worth.type-inv }) ∙ c.worth-worth.ensures.value ∙ ap (λ b. worth b (base_of c.args.dispatch.now)) c.bound-by.ensures.bounded;
-      state = c.unbound.ensures.state ∙ c.bound-by.ensures.state;
-      book = c.unbound.ensures.book ∙ c.bound-by.ensures.book;
-      network = c.unbound.ensures.network ∙ c.bound-by.ensures.network;
+      value = to_z-of_z w64 c.worth-worth.result (record { sfits = c.worth-worth.type_inv }) ∙ c.worth-worth.ensures.value ∙ ap (λ b. worth b (base_of c.args.dispatch.now)) c.bound_by.ensures.bounded;
+      state = c.unbound.ensures.state ∙ c.bound_by.ensures.state;
+      book = c.unbound.ensures.book ∙ c.bound_by.ensures.book;
+      network = c.unbound.ensures.network ∙ c.bound_by.ensures.network;
     }

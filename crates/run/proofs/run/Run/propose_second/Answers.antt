@@ -27,9 +27,9 @@ returns-in-Ok g c =
     let stepped = second_stepped m n s p c.requires (ap is_some first) in
     let Q : State → Type 0 = λ z. Called m n s (Propose p) (replaced Second (held_of h) z) (Ok tt) in
     record {
-      called = subst Q (sym c.judge-second.ensures.state) (proposal_accepted m n s p Second stepped (ap stage_of c.requires) (held_of h) known.0 known.1);
-      book = c.judge-second.ensures.book;
-      network = c.judge-second.ensures.network;
+      called = subst Q (sym c.judge_second.ensures.state) (proposal_accepted m n s p Second stepped (ap stage_of c.requires) (held_of h) known.0 known.1);
+      book = c.judge_second.ensures.book;
+      network = c.judge_second.ensures.network;
     }
 
 pub returns-in-Err : goal.returns-in-Err
@@ -45,7 +45,7 @@ returns-in-Err g c =
     let stepped = second_stepped m n s p c.requires (ap is_some first) in
     let Q : State → Type 0 = λ z. Called m n s (Propose p) z (Err f) in
     record {
-      called = subst Q (sym c.judge-second.ensures.state) (proposal_declined m n s p Second stepped (ap stage_of c.requires) f (subst P (sym first) c.in-Err.ensures.judged));
-      book = c.judge-second.ensures.book;
-      network = c.judge-second.ensures.network;
+      called = subst Q (sym c.judge_second.ensures.state) (proposal_declined m n s p Second stepped (ap stage_of c.requires) f (subst P (sym first) c.in-Err.ensures.judged));
+      book = c.judge_second.ensures.book;
+      network = c.judge_second.ensures.network;
     }

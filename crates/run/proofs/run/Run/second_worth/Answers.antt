@@ -18,11 +18,11 @@ returns-in-Some g c =
     let x = base_of c.args.dispatch.now in
     record {
       value =
-          to_z-of_z w64 c.bounded-worth.result (record { sfits = c.bounded-worth.type-inv }) ∙ c.bounded-worth.ensures.value
+          to_z-of_z w64 c.bounded_worth.result (record { sfits = c.bounded_worth.type_inv }) ∙ c.bounded_worth.ensures.value
           ∙ sym (ap (λ o. worth (priced_book m n (force_of run) (option_map held_of o) Second) x) c.in-Some.is);
-      state = c.bounded-worth.ensures.state;
-      book = c.bounded-worth.ensures.book;
-      network = c.bounded-worth.ensures.network;
+      state = c.bounded_worth.ensures.state;
+      book = c.bounded_worth.ensures.book;
+      network = c.bounded_worth.ensures.network;
     }
 
 pub returns-in-None : goal.returns-in-None
@@ -33,7 +33,7 @@ returns-in-None g c =
     let x = base_of c.args.dispatch.now in
     record {
       value =
-          to_z-of_z w64 c.worth.result (record { sfits = c.worth.type-inv }) ∙ c.worth.ensures.value
+          to_z-of_z w64 c.worth.result (record { sfits = c.worth.type_inv }) ∙ c.worth.ensures.value
           ∙ ap (λ k. worth (g.B.OfferBook.meaning k) x) c.below.ensures
           ∙ ap (λ b. worth b x) (sym (layered_plain m (layer_in m n (force_of run) None) refl))
           ∙ sym (ap (λ o. worth (priced_book m n (force_of run) (option_map held_of o) Second) x) c.in-None.is);

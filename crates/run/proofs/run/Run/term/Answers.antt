@@ -27,7 +27,7 @@ returns g c =
     let ranged : in_range q.floor q.ceiling q.adder ≡ true =
     ap (λ z. in_range z q.ceiling q.adder) (sym f) ∙ ap (λ z. in_range floor z q.adder) (sym k) ∙ told.0 in
     let is : terms_of c.in-Some.term ≡ term_in q = told.1 ∙ (λ j. record { floor = f j; ceiling = k j; adder = q.adder; subject = q.subject }) in
-    let terms = terms_after (layer_of run.book.table) (layer_of c.set-term.new.self.table) q (terms_of c.in-Some.term) few is c.set-term.ensures.layer in
+    let terms = terms_after (layer_of run.book.table) (layer_of c.set_term.new.self.table) q (terms_of c.in-Some.term) few is c.set_term.ensures.layer in
     record {
       called =
           accepted m n s (Term q) _ (term_accepted m q there ranged)
@@ -42,6 +42,6 @@ returns g c =
             first = s.first;
             second = None;
           });
-      book = c.set-term.ensures.same;
+      book = c.set_term.ensures.same;
       network = refl;
     }

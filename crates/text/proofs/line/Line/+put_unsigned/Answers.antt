@@ -11,5 +11,5 @@ pub returns-else-value-lt10 : goal.returns-else-value-lt10
 returns-else-value-lt10 t c =
     let was = text_of c.args.self.now in
     let n = c.args.value in
-    kept_both was (decimal (n / 10)) ((48 + n % 10) ∷ []) c.put-unsigned.ensures c.put-else-value-lt10.ensures
+    kept_both was (decimal (n / 10)) ((48 + n % 10) ∷ []) c.put_unsigned.ensures c.put-else-value-lt10.ensures
     ∙ ap (λ ds. kept (was ++ ds)) (sym (decimal_step n c.if-value-lt10.false (search rules)))

@@ -9,7 +9,7 @@ pub returns-then-self-buffer : goal.returns-then-self-buffer
 unfolding text_of
 returns-then-self-buffer c =
     let l = c.args.self.now in
-    let same : c.copy-from-slice.new.self ≡ text_of l = search rules in
+    let same : c.copy_from_slice.new.self ≡ text_of l = search rules in
     let p = laid_whole (text_of l) c.args.buffer.now _ c.args.at l.len _ (sym (length_text l)) (omega arith) same (omega arith) in
     record { value = p.0; after = p.1 }
 

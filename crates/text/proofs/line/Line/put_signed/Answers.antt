@@ -15,7 +15,7 @@ pub returns-then-value-lt0 : goal.returns-then-value-lt0
 returns-then-value-lt0 c =
     let f = c.ranges.value in
     let was = text_of c.args.self.now in
-    let size = simp to_z-of_z at c.unsigned-abs.ensures.value in
+    let size = simp to_z-of_z at c.unsigned_abs.ensures.value in
     let below = simp to_z-of_z at c.if-value-lt0.true in
-    kept_both was (45 ∷ []) (decimal c.unsigned-abs.result) c.put.ensures c.put-unsigned.ensures
+    kept_both was (45 ∷ []) (decimal c.unsigned_abs.result) c.put.ensures c.put_unsigned.ensures
     ∙ ap (λ ds. kept (was ++ ds)) (ap (λ n. 45 ∷ decimal n) size ∙ signed_below c.args.value below)
