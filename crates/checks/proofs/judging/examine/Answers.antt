@@ -16,6 +16,6 @@ unreachable-requires g c =
     let n = g.N.Network.meaning c.args.network.now in
     let s = step_of c.args.constraints.now c.args.stage in
     let x = pointed c.as_slice.result.now in
-    let known : (dispatch_fault m n s x ≡ None) × (base_of c.in-ok-dispatch.dispatch ≡ x) = search rules in
+    let known : (dispatch_fault m n s x ≡ None) × (base_of c.in_ok-dispatch.dispatch ≡ x) = search rules in
     let P : (ℕ → ℕ) → Type 0 = λ y. Everywhere m.count (Within m y) in
     c.in-None.ensures (subst P (sym known.1) (all_within m x (none_both (limit_fault m x) (network_fault m n s x) known.0).0))

@@ -35,8 +35,8 @@ module _ (a : Point) (ps : List Point) (i q : ℕ) (h : i < length ps) where
   further : (get_or ps i none).level < q → price_past a (drop i ps) q ≡ price_past (get_or ps i none) (drop (i + 1) ps) q
   further l = ahead ∙ cond-false _ _ _ (lt-leb _ _ l)
 
-pub returns-in-default : goal.returns-in-default
-returns-in-default c = without c.args.points.now c.args.level (search rules)
+pub returns-in_default : goal.returns-in_default
+returns-in_default c = without c.args.points.now c.args.level (search rules)
 
 pub returns-then-level-first : goal.returns-then-level-first
 returns-then-level-first c =

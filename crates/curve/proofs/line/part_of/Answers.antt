@@ -23,8 +23,8 @@ floor_is (negsuc n) d = refl
 plain : (n : ℕ) → n < 65536 → to_z w64 n ≡ pos n
 plain n h = to_z_pos w64 n (omega arith)
 
-pub overflow-mul-rise : goal.overflow-mul-rise
-overflow-mul-rise c =
+pub overflow_mul-rise : goal.overflow_mul-rise
+overflow_mul-rise c =
     rw (to_z-of_z w64 c.args.rise c.ranges.rise, plain c.args.along (omega arith))
     (product_fits c.args.rise c.args.along c.requires.fits.0 c.requires.fits.1 (omega arith))
 

@@ -30,11 +30,11 @@ module _ (c : goal.After-struct-told-3·1) where
   total_fits : SFits w32 (c.args.from.price +ℤ c.part_of-part.result)
   total_fits = rw part_is (sum_fits _ _ _ _ from_fits to_fits (omega arith))
 
-pub overflow-add-result : goal.overflow-add-result
-overflow-add-result c = let a = from_fits c in let t = total_fits c in omega (arith, ints)
+pub overflow_add-result : goal.overflow_add-result
+overflow_add-result c = let a = from_fits c in let t = total_fits c in omega (arith, ints)
 
-pub overflow-cast-result-2 : goal.overflow-cast-result-2
-overflow-cast-result-2 c = let a = from_fits c in let t = total_fits c in omega (arith, ints)
+pub overflow_cast-result-2 : goal.overflow_cast-result-2
+overflow_cast-result-2 c = let a = from_fits c in let t = total_fits c in omega (arith, ints)
 
 pub returns : goal.returns
 unfolding between

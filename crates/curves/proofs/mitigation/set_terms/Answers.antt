@@ -32,22 +32,22 @@ sets l m t ts i h e f =
     termed_ahead l ts i h
     ∙ ap (λ x. termed x (drop (i + 1) ts)) (ap (with_term l (get_or ts i none).participant) (sym e) ∙ sym f)
 
-pub returns-in-err-term : goal.returns-in-err-term
-returns-in-err-term g c =
+pub returns-in_err-term : goal.returns-in_err-term
+returns-in_err-term g c =
     let p = err_from_is_err_and c.from-residual.result c.from-residual.ensures.1 in
     record {
       same = c.loop-line.invariant.0;
       set = rw (p.1, p.2)
-          (c.loop-line.invariant.1 ∙ stops c.args.count c.args.terms.now c.loop-line.line-index _ (omega arith) c.in-err-term.ensures);
+          (c.loop-line.invariant.1 ∙ stops c.args.count c.args.terms.now c.loop-line.line-index _ (omega arith) c.in_err-term.ensures);
     }
 
 pub loop-line-preserved : goal.loop-line-preserved
 loop-line-preserved g c =
-    let e = c.in-ok-term.ensures in (
+    let e = c.in_ok-term.ensures in (
       c.set_term.ensures.same ∙ c.loop-line.invariant.0,
       c.loop-line.invariant.1 ∙ passes c.args.count c.args.terms.now c.loop-line.line-index (omega arith) e.0,
       c.loop-line.invariant.2
-          ∙ sets (layer_of c.loop-line.book.table) (layer_of c.set_term.new.self.table) (terms_of c.in-ok-term.term) c.args.terms.now c.loop-line.line-index (omega arith) e.1 c.set_term.ensures.layer,
+          ∙ sets (layer_of c.loop-line.book.table) (layer_of c.set_term.new.self.table) (terms_of c.in_ok-term.term) c.args.terms.now c.loop-line.line-index (omega arith) e.1 c.set_term.ensures.layer,
     )
 
 pub returns : goal.returns

@@ -41,14 +41,14 @@ pub loop-participant-init : goal.loop-participant-init
 loop-participant-init g c =
     starts (g.B.OfferBook.meaning c.args.book.now) (g.N.Network.meaning c.args.network.now) (prices_of c.args.quote.now) (base_of c.args.dispatch.now)
 
-pub overflow-add-total : goal.overflow-add-total
-overflow-add-total g c =
+pub overflow_add-total : goal.overflow_add-total
+overflow_add-total g c =
     let m = g.B.OfferBook.meaning c.args.book.now in
     let n = g.N.Network.meaning c.args.network.now in
     let p = prices_of c.args.quote.now in
     let x = base_of c.args.dispatch.now in
     let i = c.loop-participant.participant in
-    let r = c.in-ok-total.field-0 in
+    let r = c.in_ok-total.field-0 in
     let few : i < 64 = let a = g.met.B.OfferBook.few c.args.book.now in let b = c.count-participant-end.ensures in omega arith in
     let part : Part m n p x i r = search rules in
     let inv = rw c.loop-participant.total-is at c.loop-participant.invariant in
@@ -62,7 +62,7 @@ loop-participant-preserved g c =
     let x = base_of c.args.dispatch.now in
     let i = c.loop-participant.participant in
     let t = c.loop-participant.total in
-    let r = c.in-ok-total.field-0 in
+    let r = c.in_ok-total.field-0 in
     let few : i < 64 = let a = g.met.B.OfferBook.few c.args.book.now in let b = c.count-participant-end.ensures in omega arith in
     let part : Part m n p x i r = search rules in
     let inv = rw c.loop-participant.total-is at c.loop-participant.invariant in

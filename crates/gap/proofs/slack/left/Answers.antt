@@ -21,8 +21,8 @@ module _ (a f z : ℤ) (is : f ≡ z) (low : pos 0 ≤ℤ a) (high : a ≤ℤ po
   left : (r : ℤ) → a ≡ r → (a -ℤ f) ≡ (r -ℤ z)
   left r e = omega (arith, ints)
 
-pub overflow-sub-result : goal.overflow-sub-result
-overflow-sub-result g c =
+pub overflow_sub-result : goal.overflow_sub-result
+overflow_sub-result g c =
     let n = g.N.Network.meaning c.args.network.now in
     let k = c.args.line in
     let sheet = c.args.sheet.now in

@@ -10,8 +10,8 @@ module _ (c : goal.Start) where
   whole : SFits w64 (pos c.args.shadow *ℤ c.args.left)
   whole = let r = range in omega (arith, ints)
 
-pub overflow-mul-result : goal.overflow-mul-result
-overflow-mul-result c = let h = c.requires.shadow in let b = c.ranges.left in rw (to_z_pos w64 c.args.shadow (omega arith)) (simp to_z-of_z (whole c))
+pub overflow_mul-result : goal.overflow_mul-result
+overflow_mul-result c = let h = c.requires.shadow in let b = c.ranges.left in rw (to_z_pos w64 c.args.shadow (omega arith)) (simp to_z-of_z (whole c))
 
 pub returns : goal.returns
 returns c =

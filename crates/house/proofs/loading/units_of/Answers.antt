@@ -14,5 +14,5 @@ loop-i-preserved c =
           (λ k h. let ne : k ≢ i = omega arith in
           subst (Stands w (get_or c.args.rows.now k blank)) (sym (get_or-set_other us i k _ nobody ne)) (c.loop-i.invariant.1 k h))
           (let lt : i < length us = omega (arith, c.loop-i.invariant.0, c.requires.few) in
-          subst (Stands w (get_or c.args.rows.now i blank)) (sym (get_or-set_same us i _ nobody lt)) c.in-ok-units.ensures),
+          subst (Stands w (get_or c.args.rows.now i blank)) (sym (get_or-set_same us i _ nobody lt)) c.in_ok-units.ensures),
     )

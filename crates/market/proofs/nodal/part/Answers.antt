@@ -7,8 +7,8 @@ use Rattle.market.proofs.nodal.part.Goals as goal
 product : (s : ℤ) (u : ℕ) → negsuc 999 ≤ℤ s → s ≤ℤ pos 1000 → u ≤ 1000000 → (negsuc 999999999 ≤ℤ (s *ℤ pos u)) × ((s *ℤ pos u) ≤ℤ pos 1000000000)
 product s u a b h = times_within s (pos u) 1000 1000000 a b (omega (arith, ints)) (omega (arith, ints))
 
-pub overflow-mul-result : goal.overflow-mul-result
-overflow-mul-result c =
+pub overflow_mul-result : goal.overflow_mul-result
+overflow_mul-result c =
     let s = c.args.share in
     let u = c.args.shadow in
     let a = c.ranges.share in

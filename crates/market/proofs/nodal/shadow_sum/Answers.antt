@@ -8,8 +8,8 @@ use Rattle.market.proofs.nodal.shadow_sum.Goals as goal
 pub loop-line-init : goal.loop-line-init
 loop-line-init g c = (sym (sum_none _), omega (arith, ints), omega (arith, ints))
 
-pub overflow-add-total : goal.overflow-add-total
-overflow-add-total g c =
+pub overflow_add-total : goal.overflow_add-total
+overflow_add-total g c =
     let few = g.met.N.Network.few c.args.network.now in
     let count = c.lines-line-end.ensures in
     let l = c.loop-line.invariant.1 in

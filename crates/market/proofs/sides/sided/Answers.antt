@@ -13,8 +13,8 @@ module _ (c : goal.Start) where
   whole : SFits w64 (c.args.side *ℤ c.args.amount)
   whole = let r = range in omega (arith, ints)
 
-pub overflow-mul-result : goal.overflow-mul-result
-overflow-mul-result c = let a = c.ranges.side in let b = c.ranges.amount in let w = wide c in simp to_z-of_z (whole c)
+pub overflow_mul-result : goal.overflow_mul-result
+overflow_mul-result c = let a = c.ranges.side in let b = c.ranges.amount in let w = wide c in simp to_z-of_z (whole c)
 
 pub returns : goal.returns
 returns c =

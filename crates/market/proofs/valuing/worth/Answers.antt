@@ -74,8 +74,8 @@ sided-total-requires g c =
     rw (to_z-of_z w8 c.side.result fit, to_z-of_z w64 c.cost-cost.result fit2, c.side.ensures)
     (record { side = range; amount = (wide, high) })
 
-pub overflow-sub-total : goal.overflow-sub-total
-overflow-sub-total g c =
+pub overflow_sub-total : goal.overflow_sub-total
+overflow_sub-total g c =
     let fit : SFits w64 c.sided-total.result = record { sfits = c.sided-total.type_inv } in
     let few : c.loop-participant.participant < 64 = let a = g.met.B.OfferBook.few c.args.book.now in let b = c.count-participant-end.ensures in omega arith in
     let inv = rw c.loop-participant.total-is at c.loop-participant.invariant in

@@ -12,14 +12,14 @@ use Rattle.measure.proofs.widest.judge.Goals as goal
 
 pub returns : goal.returns
 returns c =
-    let quote = c.in-ok-quote.quote in
-    let dispatch = c.in-ok-dispatch.dispatch in
+    let quote = c.in_ok-quote.quote in
+    let dispatch = c.in_ok-dispatch.dispatch in
     let limits = c.new-3.ensures in
-    let asked = c.in-ok-quote.ensures in
+    let asked = c.in_ok-quote.ensures in
     let step : step_of c.new-3.result Second ≡ wide_step = λ j.
     record { requirement = ap pos limits.requirement j; limit = λ k. ap pos (limits.amounts k) j; observed = λ _. true } in
     let prices : prices_of quote ≡ quoted c.args.system c.args.shadow.now = λ j.
     record { system = (asked.1 ∙ to_z-of_z w32 c.args.system c.ranges.system) j; shadow = λ k. ap pos (asked.2 k) j } in
-    let base : base_of dispatch ≡ based c.args.base.now = λ j. λ i. c.in-ok-dispatch.ensures.1 i j in
-    moved _ _ _ _ _ (book_of c.in-ok-book.book) (networkOf c.in-ok-network.network) (step_of c.new-3.result Second) (prices_of quote) (base_of dispatch) c.gap.result
-    c.in-ok-book.ensures c.in-ok-network.ensures step prices base c.gap.ensures
+    let base : base_of dispatch ≡ based c.args.base.now = λ j. λ i. c.in_ok-dispatch.ensures.1 i j in
+    moved _ _ _ _ _ (book_of c.in_ok-book.book) (networkOf c.in_ok-network.network) (step_of c.new-3.result Second) (prices_of quote) (base_of dispatch) c.gap.result
+    c.in_ok-book.ensures c.in_ok-network.ensures step prices base c.gap.ensures

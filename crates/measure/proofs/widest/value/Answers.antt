@@ -7,8 +7,8 @@ use Rattle.measure.proofs.widest.value.Goals as goal
 
 pub returns : goal.returns
 returns c =
-    let x : base_of c.in-ok-dispatch.dispatch ≡ based c.args.base.now = λ j. λ i. c.in-ok-dispatch.ensures.1 i j in
+    let x : base_of c.in_ok-dispatch.dispatch ≡ based c.args.base.now = λ j. λ i. c.in_ok-dispatch.ensures.1 i j in
     to_z-of_z w64 c.worth.result (record { sfits = c.worth.type_inv })
     ∙ c.worth.ensures.value
-    ∙ ap (λ m. worth m (base_of c.in-ok-dispatch.dispatch)) c.in-ok-book.ensures
+    ∙ ap (λ m. worth m (base_of c.in_ok-dispatch.dispatch)) c.in_ok-book.ensures
     ∙ ap (worth (wide_book c.args.prices.now)) x

@@ -9,10 +9,10 @@ ahead : (rows : List (List ℤ)) (k : ℕ) → k < length rows → range_fault k
 unfolding range_fault
 ahead rows k h = rw add-one (rw add-one at (at_drop_more (range_fault k) rows k [] h))
 
-pub returns-in-default : goal.returns-in-default
-returns-in-default c =
+pub returns-in_default : goal.returns-in_default
+returns-in_default c =
     c.loop-place.invariant.1 ∙ ahead c.args.rows.now c.loop-place.place c.loop-place-test.true
-    ∙ cond-false _ _ _ c.in-default.ensures
+    ∙ cond-false _ _ _ c.in_default.ensures
 
 pub loop-place-preserved : goal.loop-place-preserved
 loop-place-preserved c =

@@ -10,5 +10,5 @@ unreachable-requires g c =
     let few = g.met.B.OfferBook.few book in
     let count = c.count.ensures in
     let l : length points ≤ 64 = omega arith in
-    let h = within_holds (g.B.OfferBook.meaning book) (g.met.B.OfferBook.highest book) points l c.in-ok-hold_limits.ensures in
+    let h = within_holds (g.B.OfferBook.meaning book) (g.met.B.OfferBook.highest book) points l c.in_ok-hold_limits.ensures in
     true≢false (sym h ∙ c.in-None.ensures)

@@ -8,6 +8,6 @@ pub returns : goal.returns
 returns c =
     let same = same_book c.stacks_of.result c.args.rows.now c.stacks_of.ensures.same in
     record {
-      value = (c.in-ok-check_rows.ensures.value, same);
+      value = (c.in_ok-check_rows.ensures.value, same);
       prices = subst (λ (m : Book). Blockwise c.args.rows.now m) (sym same) (blockwise c.args.rows.now);
     }

@@ -3,13 +3,13 @@ use Rattle.block.specs.Blocks.{sizes, high_of}
 use Rattle.block.proofs.Sound.{sound}
 use Rattle.block.proofs.stack.Stack.new.Goals as goal
 
-pub overflow-cast-high : goal.overflow-cast-high
-overflow-cast-high c =
+pub overflow_cast-high : goal.overflow_cast-high
+overflow_cast-high c =
     let e : c.total-high.result ≡ high_of c.args.row.now = c.total-high.ensures ∙ ap sizes c.submitted.ensures.value in
     let h = (sound c.args.row.now c.requires).highest in
     omega arith
 
-pub invariant-of-result : goal.invariant-of-result
-invariant-of-result c =
+pub invariant_of-result : goal.invariant_of-result
+invariant_of-result c =
     let s = sound c.args.row.now c.requires in
     (s.site, (c.total-high.ensures ∙ ap sizes c.submitted.ensures.value, (s.highest, (s.least, (s.most, (s.rises, tt))))))

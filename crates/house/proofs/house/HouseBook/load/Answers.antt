@@ -6,8 +6,8 @@ use Rattle.house.proofs.house.HouseBook.load.Goals as goal
 
 pub returns : goal.returns
 returns c =
-    let value = c.in-ok-offer_cap.ensures.value in (
+    let value = c.in_ok-offer_cap.ensures.value in (
       value.1,
-      means c.args.cents c.args.rows.now _ c.in-ok-units.units refl
-          (λ i h. subst (λ w. Stands w (get_or c.args.rows.now i blank) (get_or c.in-ok-units.units i nobody)) value.0 (c.in-ok-units.ensures i h)),
+      means c.args.cents c.args.rows.now _ c.in_ok-units.units refl
+          (λ i h. subst (λ w. Stands w (get_or c.args.rows.now i blank) (get_or c.in_ok-units.units i nobody)) value.0 (c.in_ok-units.ensures i h)),
     )

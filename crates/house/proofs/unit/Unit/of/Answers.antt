@@ -9,27 +9,27 @@ use Rattle.house.specs.Unit.{side_of, row_reading}
 use Rattle.house.proofs.Owed.{unit_limits, unit_bus, unit_reading, unit_sided, unit_unread, unit_moves}
 use Rattle.house.proofs.unit.Unit.of.Goals as goal
 
-pub returns-in-err-class : goal.returns-in-err-class
-returns-in-err-class c = absurd (true≢false (ap is_err c.in-err-class.ensures ∙ c.requires Letter))
+pub returns-in_err-class : goal.returns-in_err-class
+returns-in_err-class c = absurd (true≢false (ap is_err c.in_err-class.ensures ∙ c.requires Letter))
 
 module _ (c : goal.After-side_of) where
-  class_is : class_of c.args.row.now.letter ≡ Ok c.in-ok-class.class
-  class_is = sym c.in-ok-class.ensures
+  class_is : class_of c.args.row.now.letter ≡ Ok c.in_ok-class.class
+  class_is = sym c.in_ok-class.ensures
 
-  side_is : to_z w8 (of_z w8 c.side_of.result) ≡ side_of c.in-ok-class.class
+  side_is : to_z w8 (of_z w8 c.side_of.result) ≡ side_of c.in_ok-class.class
   side_is = to_z-of_z w8 _ (record { sfits = c.side_of.type_inv }) ∙ c.side_of.ensures
 
-  prices : (q : ℕ) → price_on c.in-ok-curve.curve q ≡ row_price c.args.offer_cap.cents c.args.row.now q
-  prices = c.in-ok-curve.ensures.prices
+  prices : (q : ℕ) → price_on c.in_ok-curve.curve q ≡ row_price c.args.offer_cap.cents c.args.row.now q
+  prices = c.in_ok-curve.ensures.prices
 
   lawful : Sound c.args.offer_cap.cents c.args.row.now
-  lawful = c.in-ok-curve.ensures.sound c.requires
+  lawful = c.in_ok-curve.ensures.sound c.requires
 
   limits : (c.args.row.now.ldl ≤ c.args.row.now.hdl) × (c.args.row.now.hdl ≤ 20000)
   limits = unit_limits c.args.offer_cap.cents c.args.row.now c.requires
 
-pub invariant-of-result : goal.invariant-of-result
-invariant-of-result c = (
+pub invariant_of-result : goal.invariant_of-result
+invariant_of-result c = (
   unit_bus c.args.offer_cap.cents c.args.row.now c.requires,
   (
     subst (λ s. (s *ℤ s) ≡ pos 1) (sym (side_is c)) (unit_sided c.args.offer_cap.cents c.args.row.now _ (class_is c)),

@@ -10,8 +10,8 @@ payable_each [] e k = omega arith
 payable_each (u ∷ us) e zero = leb-true u 1000000 (and_parts (leb u 1000000) (payable us) e).0
 payable_each (u ∷ us) e (suc k) = payable_each us (and_parts (leb u 1000000) (payable us) e).1 k
 
-pub invariant-of-result : goal.invariant-of-result
-invariant-of-result c = (
+pub invariant_of-result : goal.invariant_of-result
+invariant_of-result c = (
   omega (arith, ints),
   (
     omega (arith, ints),

@@ -3,8 +3,8 @@ use Rattle.std.proofs.lemmas.Int.{ints}
 use Rattle.shelf.proofs.Lists.{throughout}
 use Rattle.network.proofs.injections.Injections.new.Goals as goal
 
-pub invariant-of-result : goal.invariant-of-result
-invariant-of-result c = (
+pub invariant_of-result : goal.invariant_of-result
+invariant_of-result c = (
   refl,
   (
     (λ b. subst (λ z. negsuc 1279999 ≤ℤ z) (sym (throughout (λ z. z) 64 b (pos 0) (pos 0) refl)) (omega (arith, ints))),

@@ -4,8 +4,8 @@ use Rattle.std.proofs.lemmas.Int.{ints}
 use Rattle.shelf.proofs.Lists.{still}
 use Rattle.network.proofs.injections.Injections.put.Goals as goal
 
-pub invariant-of-self : goal.invariant-of-self
-invariant-of-self c =
+pub invariant_of-self : goal.invariant_of-self
+invariant_of-self c =
     let s = c.args.self.now in (
       length-set s.at c.args.bus _ ∙ s.buses,
       (

@@ -4,5 +4,5 @@ use Rattle.network.proofs.table.TableNetwork.load.Goals as goal
 
 pub returns : goal.returns
 returns c =
-    let made = c.in-ok-table.ensures in
-    (search rules, tabled_is c.args.rows.now c.in-ok-table.table _ refl made.1)
+    let made = c.in_ok-table.ensures in
+    (search rules, tabled_is c.args.rows.now c.in_ok-table.table _ refl made.1)

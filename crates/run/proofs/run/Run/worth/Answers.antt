@@ -12,11 +12,11 @@ returns-in-First g c =
     let run = c.args.self.now in
     let m = g.B.OfferBook.meaning run.book.book in
     let n = g.N.Network.meaning run.network in
-    let h = c.in-ok-held.held in
+    let h = c.in_ok-held.held in
     let z = c.worth.result in
     record {
       value =
-          held_worth m n (state_of run) c.args.stage First c.held.result h (to_z w64 (of_z w64 z)) c.held.ensures c.in-ok-held.was c.in-First.is
+          held_worth m n (state_of run) c.args.stage First c.held.result h (to_z w64 (of_z w64 z)) c.held.ensures c.in_ok-held.was c.in-First.is
           (to_z-of_z w64 z (record { sfits = c.worth.type_inv }) ∙ c.worth.ensures.value ∙ ap (λ k. worth (g.B.OfferBook.meaning k) (base_of h.dispatch)) c.below.ensures);
       state = refl;
       book = refl;
@@ -28,11 +28,11 @@ returns-in-Second g c =
     let run = c.args.self.now in
     let m = g.B.OfferBook.meaning run.book.book in
     let n = g.N.Network.meaning run.network in
-    let h = c.in-ok-held.held in
+    let h = c.in_ok-held.held in
     let z = c.second_worth.result in
     record {
       value =
-          held_worth m n (state_of run) c.args.stage Second c.held.result h (to_z w64 (of_z w64 z)) c.held.ensures c.in-ok-held.was c.in-Second.is
+          held_worth m n (state_of run) c.args.stage Second c.held.result h (to_z w64 (of_z w64 z)) c.held.ensures c.in_ok-held.was c.in-Second.is
           (to_z-of_z w64 z (record { sfits = c.second_worth.type_inv }) ∙ c.second_worth.ensures.value);
       state = c.second_worth.ensures.state;
       book = c.second_worth.ensures.book;
