@@ -29,7 +29,7 @@ overflow_mul-rise c =
     (product_fits c.args.rise c.args.along c.requires.fits.0 c.requires.fits.1 (omega arith))
 
 pub div_euclid-requires : goal.div_euclid-requires
-div_euclid-requires c = rw (plain c.args.run (omega arith)) (record { nonzero = omega arith; fits = λ e f. omega arith })
+div_euclid-requires c = rw (plain c.args.run (omega arith)) (record { nonzero = omega arith; no_overflow = λ e f. omega arith })
 
 pub returns : goal.returns
 returns c =

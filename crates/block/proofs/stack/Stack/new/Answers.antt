@@ -12,4 +12,7 @@ overflow_cast-high c =
 pub invariant_of-result : goal.invariant_of-result
 invariant_of-result c =
     let s = sound c.args.row.now c.requires in
-    (s.site, (c.total-high.ensures ∙ ap sizes c.submitted.ensures.value, (s.highest, (s.least, (s.most, (s.rises, tt))))))
+    record {
+      site = s.site; whole = c.total-high.ensures ∙ ap sizes c.submitted.ensures.value; highest = s.highest; least = s.least; most = s.most;
+      rises = s.rises;
+    }

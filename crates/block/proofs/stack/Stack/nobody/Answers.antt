@@ -5,4 +5,6 @@ use Rattle.block.proofs.stack.Stack.nobody.Goals as goal
 
 pub invariant_of-result : goal.invariant_of-result
 unfolding sizes
-invariant_of-result c = let s = sound _ blank_kept in (s.site, (refl, (s.highest, (s.least, (s.most, (s.rises, tt))))))
+invariant_of-result c = 
+    let s = sound _ blank_kept in
+    record { site = s.site; whole = refl; highest = s.highest; least = s.least; most = s.most; rises = s.rises }

@@ -3,7 +3,8 @@ use Rattle.dispatch.proofs.Reach.{reachable_each}
 use Rattle.dispatch.proofs.dispatch.Dispatch.new.Goals as goal
 
 pub invariant_of-result : goal.invariant_of-result
-invariant_of-result c = (
-  search rules,
-  ((λ i. subst (λ n. n ≤ 20000) (sym (c.padded.ensures i)) (reachable_each c.args.points.now (sym c.if-not-all_reachable.ensures) i)), tt),
-)
+invariant_of-result c =
+    record {
+      room = search rules;
+      most = λ i. subst (λ n. n ≤ 20000) (sym (c.padded.ensures i)) (reachable_each c.args.points.now (sym c.if-not-all_reachable.ensures) i);
+    }

@@ -29,31 +29,15 @@ module _ (c : goal.After-side_of) where
   limits = unit_limits c.args.offer_cap.cents c.args.row.now c.requires
 
 pub invariant_of-result : goal.invariant_of-result
-invariant_of-result c = (
-  unit_bus c.args.offer_cap.cents c.args.row.now c.requires,
-  (
-    subst (λ s. (s *ℤ s) ≡ pos 1) (sym (side_is c)) (unit_sided c.args.offer_cap.cents c.args.row.now _ (class_is c)),
-    (
-      (limits c).0,
-      (
-        (limits c).1,
-        (
-          subst (λ n. n ≤ 20000) (sym c.reading_of-reading.ensures) (unit_reading c.args.offer_cap.cents c.args.row.now c.requires),
-          (
-            (λ g. c.reading_of-reading.ensures ∙ unit_unread c.args.offer_cap.cents c.args.row.now _ (class_is c) (sym (side_is c) ∙ g)),
-            (
-              (λ q. subst (λ x. least_price ≤ℤ x) (sym (prices c q)) ((lawful c).least q)),
-              (
-                (λ q. subst (λ x. x ≤ℤ most_price) (sym (prices c q)) ((lawful c).most q)),
-                (
-                  (λ p q h. rw (side_is c, prices c p, prices c q) (unit_moves c.args.offer_cap.cents c.args.row.now _ (class_is c) (lawful c) p q h)),
-                  tt,
-                ),
-              ),
-            ),
-          ),
-        ),
-      ),
-    ),
-  ),
-)
+invariant_of-result c =
+    record {
+      there = unit_bus c.args.offer_cap.cents c.args.row.now c.requires;
+      sided = subst (λ s. (s *ℤ s) ≡ pos 1) (sym (side_is c)) (unit_sided c.args.offer_cap.cents c.args.row.now _ (class_is c));
+      limits = (limits c).0;
+      highest = (limits c).1;
+      readings = subst (λ n. n ≤ 20000) (sym c.reading_of-reading.ensures) (unit_reading c.args.offer_cap.cents c.args.row.now c.requires);
+      unread = λ g. c.reading_of-reading.ensures ∙ unit_unread c.args.offer_cap.cents c.args.row.now _ (class_is c) (sym (side_is c) ∙ g);
+      least = λ q. subst (λ x. least_price ≤ℤ x) (sym (prices c q)) ((lawful c).least q);
+      most = λ q. subst (λ x. x ≤ℤ most_price) (sym (prices c q)) ((lawful c).most q);
+      moves = λ p q h. rw (side_is c, prices c p, prices c q) (unit_moves c.args.offer_cap.cents c.args.row.now _ (class_is c) (lawful c) p q h);
+    }

@@ -11,13 +11,10 @@ payable_each (u ∷ us) e zero = leb-true u 1000000 (and_parts (leb u 1000000) (
 payable_each (u ∷ us) e (suc k) = payable_each us (and_parts (leb u 1000000) (payable us) e).1 k
 
 pub invariant_of-result : goal.invariant_of-result
-invariant_of-result c = (
-  omega (arith, ints),
-  (
-    omega (arith, ints),
-    (
-      search rules,
-      ((λ k. subst (λ n. n ≤ 1000000) (sym (c.padded.ensures k)) (payable_each c.args.shadow.now (sym c.if-not-all_payable.ensures) k)), tt),
-    ),
-  ),
-)
+invariant_of-result c =
+    record {
+      least = omega (arith, ints);
+      most = omega (arith, ints);
+      lines = search rules;
+      shadows = λ k. subst (λ n. n ≤ 1000000) (sym (c.padded.ensures k)) (payable_each c.args.shadow.now (sym c.if-not-all_payable.ensures) k);
+    }

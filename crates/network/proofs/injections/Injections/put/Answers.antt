@@ -6,10 +6,9 @@ use Rattle.network.proofs.injections.Injections.put.Goals as goal
 
 pub invariant_of-self : goal.invariant_of-self
 invariant_of-self c =
-    let s = c.args.self.now in (
-      length-set s.at c.args.bus _ ∙ s.buses,
-      (
-        still (λ z. negsuc 1279999 ≤ℤ z) s.at c.args.bus _ (pos 0) s.least (omega (arith, ints)),
-        (still (λ z. z ≤ℤ pos 1280000) s.at c.args.bus _ (pos 0) s.most (omega (arith, ints)), tt),
-      ),
-    )
+    let s = c.args.self.now in
+    record {
+      buses = length-set s.at c.args.bus _ ∙ s.buses;
+      least = still (λ z. negsuc 1279999 ≤ℤ z) s.at c.args.bus _ (pos 0) s.least (omega (arith, ints));
+      most = still (λ z. z ≤ℤ pos 1280000) s.at c.args.bus _ (pos 0) s.most (omega (arith, ints));
+    }

@@ -5,4 +5,4 @@ use Rattle.network.proofs.shares.Shares.new.Goals as goal
 pub invariant_of-result : goal.invariant_of-result
 invariant_of-result c =
     let each = ranged_each c.args.at (sym c.if-in_range.ensures) in
-    (search rules, ((λ b. (each b).0), ((λ b. (each b).1), tt)))
+    record { buses = search rules; least = λ b. (each b).0; most = λ b. (each b).1 }

@@ -4,4 +4,4 @@ use Rattle.network.proofs.shares.Shares.none.Goals as goal
 
 pub invariant_of-result : goal.invariant_of-result
 unfolding no_shares
-invariant_of-result c = (refl, (no_shares.least, (no_shares.most, tt)))
+invariant_of-result c = record { buses = refl; least = no_shares.least; most = no_shares.most }
