@@ -11,7 +11,7 @@ sum_fits a b t w fa fb h =
     (λ l. let g = part_up (b -ℤ a) t w (omega (arith, ints)) h in omega (arith, ints))
     (λ l. let g = part_down (b -ℤ a) t w (omega (arith, ints)) h in omega (arith, ints))
 
-module _ (c : goal.After-part_of-part) where
+module _ (c : goal.After-struct_told-3-1) where
   from_fits : SFits w32 c.args.from.price
   from_fits = search rules
 
