@@ -1,2 +1,4 @@
 pub mod Mitigation
 pub mod Tabled
+pub mod Layered
+pub mod Kept

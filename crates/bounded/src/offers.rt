@@ -1,6 +1,7 @@
 // The layer answers the questions of an offer book from the book below and its table.
 
 ghost use Rattle.std.specs.Prelude.{◌≡◌};
+ghost use Rattle.bounded.specs.Kept.{table_lawful};
 ghost use Rattle.bounded.specs.Mitigation.{bites, layered};
 ghost use Rattle.bounded.specs.Tabled.{layer_of};
 ghost use Rattle.std.proofs.Common.{rules};
@@ -18,6 +19,8 @@ fn bites<B: OfferBook>(book: &B, participant: usize, level: u16) -> bool
 impl<B: OfferBook> OfferBook for Bounded<B> {
     ghost meaning = { λ s. layered (B.OfferBook.meaning s.book) (layer_of s.table) };
 
+    ghost lawful = { λ s. table_lawful (B.OfferBook.meaning s.book) s.table (B.OfferBook.lawful s.book) };
+
     ghost few = { Prim.search rules };
 
     ghost buses = { Prim.search rules };
@@ -27,6 +30,10 @@ impl<B: OfferBook> OfferBook for Bounded<B> {
     ghost highest = { Prim.search rules };
 
     ghost readings = { Prim.search rules };
+
+    ghost least = { λ s. (table_lawful (B.OfferBook.meaning s.book) s.table (B.OfferBook.lawful s.book)).least };
+
+    ghost most = { λ s. (table_lawful (B.OfferBook.meaning s.book) s.table (B.OfferBook.lawful s.book)).most };
 
     fn count(&self) -> usize {
         self.book.count()

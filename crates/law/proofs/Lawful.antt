@@ -10,7 +10,7 @@ use Rattle.calls.specs.declared.call.Proposal.{Proposal}
 use Rattle.book.specs.Meaning as Books
 use Rattle.book.specs.Meaning.{Book}
 use Rattle.bounded.specs.Mitigation.{Measured}
-use Rattle.bounded.proofs.Layered.{layered_lawful}
+use Rattle.bounded.specs.Layered.{layered_lawful}
 use Rattle.network.specs.Grid.{Grid}
 use Rattle.market.specs.Laws.{Fair, Settled}
 use Rattle.market.specs.Market.{Step, Feasible, worth, gap}

@@ -3,7 +3,7 @@
 #![tactic(auto)]
 
 mod base;
-mod block;
+mod blocks;
 mod line;
 mod mistake;
 mod number;

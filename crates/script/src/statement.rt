@@ -1,7 +1,7 @@
 // What a line says, by its first word.
 
 use crate::base::read_base;
-use crate::block::read_block_row;
+use crate::blocks::read_block_row;
 use crate::line::read_shares;
 use crate::mistake::Mistake;
 use crate::number::cents_of;

@@ -1,5 +1,5 @@
 use Rattle.std.proofs.Common.{sym, arith}
-use Rattle.bounded.proofs.Layered.{bites_there}
+use Rattle.bounded.specs.Layered.{bites_there}
 use Rattle.bounded.proofs.offers.BoundedOfferBook.price.Goals as goal
 
 pub apply-requires : goal.apply-requires

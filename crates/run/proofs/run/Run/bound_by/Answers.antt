@@ -2,7 +2,7 @@ use Rattle.std.proofs.Common.{◌≡◌, ℕ, ◌<◌, true, get_or, ℤ, pos, S
 use Rattle.book.specs.Meaning.{Book}
 use Rattle.bounded.specs.Mitigation.{layered}
 use Rattle.bounded.specs.Tabled.{layer_of}
-use Rattle.bounded.proofs.Layered.{layered_same}
+use Rattle.bounded.specs.Layered.{layered_same}
 use Rattle.market.specs.Quoted.{prices_of}
 use Rattle.checks.specs.Proposed.{held_of}
 use Rattle.law.specs.State.{layer_in, reference}

@@ -1,7 +1,7 @@
 use Rattle.std.proofs.Common.{◌≡◌, Some, None, sym, refl, ap, ◌∙◌, w64, rules}
 use Rattle.std.proofs.lemmas.Int.{to_z-of_z}
 use Rattle.std.specs.Option.{option_map}
-use Rattle.bounded.proofs.Layered.{layered_plain}
+use Rattle.bounded.specs.Layered.{layered_plain}
 use Rattle.dispatch.specs.Base.{base_of}
 use Rattle.market.specs.Market.{worth}
 use Rattle.feasible.specs.declared.stage.Stage.TheVariants.{Second}
