@@ -34,7 +34,7 @@ sets l m t ts i h e f =
 
 pub returns-in_err-term : goal.returns-in_err-term
 returns-in_err-term g c =
-    let p = err_from_is_err_and c.from-residual.result c.from-residual.ensures.1 in
+    let p = err_from_is_err_and c.from_residual.result c.from_residual.ensures.1 in
     record {
       same = c.loop-line.invariant.0;
       set = rw (p.1, p.2)
