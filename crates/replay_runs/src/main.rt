@@ -39,7 +39,8 @@ fn run(rt: &HostRuntime) -> Result<(), Stop> {
 }
 
 fn read_all(rt: &HostRuntime, input: &mut Input) -> Result<(), Stop> {
-    for line in BufReader::new(rt.stdin()).lines(rt.alloc()) {
+    let heap = rt.alloc();
+    for line in BufReader::new(heap, rt.stdin())?.lines(heap) {
         match line {
             Ok(text) => input.read(text.as_str())?,
             Err(error) if error.kind() == ErrorKind::InvalidData => return Err(input.not_text()),

@@ -4,17 +4,34 @@
 use crate::sample::*;
 use rows::Row;
 use std::process::Abort;
-use std::test::Fail;
 
 // The row alone, and second after a row without fault.
-fn check_row(rt: &impl Abort, row: Row, number: u8) -> Result<(), Fail> {
-    assert!(rt; told(1_000, &[row]) == (number, 0));
-    assert!(rt; told(1_000, &[plain('N'), row]) == (number, if number == 0 { 0 } else { 1 }));
-    Ok(())
+fn check_row(rt: &impl Abort, row: Row, number: u8) {
+    let Row {
+        letter,
+        bus,
+        lsl,
+        ldl,
+        hdl,
+        hsl,
+        count,
+        reading,
+        points,
+    } = row;
+    let [first, last, ..] = points;
+    let (from, begins, to, ends) = (first.level, first.price, last.level, last.price);
+    assert!(rt;
+        told(1_000, &[row]) == (number, 0),
+        "{letter} {bus} {lsl} {ldl} {hdl} {hsl} {count} {reading} {from} {begins} {to} {ends}"
+    );
+    assert!(rt;
+        told(1_000, &[plain('N'), row]) == (number, if number == 0 { 0 } else { 1 }),
+        "second: {letter} {bus} {lsl} {ldl} {hdl} {hsl} {count} {reading} {from} {begins} {to} {ends}"
+    );
 }
 
 #[test]
-fn letters_and_buses(rt: HostRuntime) -> Result<(), Fail> {
+fn letters_and_buses(rt: HostRuntime) {
     for (letter, bus, number) in [
         ('N', 0, 0),
         ('I', 0, 0),
@@ -32,14 +49,12 @@ fn letters_and_buses(rt: HostRuntime) -> Result<(), Fail> {
                 ..plain(letter)
             },
             number,
-        )
-        .note(format_args!("{letter}, bus {bus}"))?;
+        );
     }
-    Ok(())
 }
 
 #[test]
-fn limits(rt: HostRuntime) -> Result<(), Fail> {
+fn limits(rt: HostRuntime) {
     for (lsl, ldl, hdl, hsl, number) in [
         (150, 150, 150, 150, 0),
         (151, 150, 150, 150, 5),
@@ -59,14 +74,12 @@ fn limits(rt: HostRuntime) -> Result<(), Fail> {
                 ..plain('N')
             },
             number,
-        )
-        .note(format_args!("{lsl} {ldl} {hdl} {hsl}"))?;
+        );
     }
-    Ok(())
 }
 
 #[test]
-fn counts_and_readings(rt: HostRuntime) -> Result<(), Fail> {
+fn counts_and_readings(rt: HostRuntime) {
     for (letter, count, reading, number) in [
         ('N', 10, 200, 0),
         ('N', 11, 200, 6),
@@ -90,14 +103,12 @@ fn counts_and_readings(rt: HostRuntime) -> Result<(), Fail> {
                 ..plain(letter)
             },
             number,
-        )
-        .note(format_args!("{letter} {count} {reading}"))?;
+        );
     }
-    Ok(())
 }
 
 #[test]
-fn levels_and_prices(rt: HostRuntime) -> Result<(), Fail> {
+fn levels_and_prices(rt: HostRuntime) {
     for (letter, first, last, number) in [
         ('N', (120, 50), (119, 50), 7),
         ('N', (120, 50), (120, 50), 0),
@@ -115,9 +126,6 @@ fn levels_and_prices(rt: HostRuntime) -> Result<(), Fail> {
         ('L', (120, 1_000), (350, -25_001), 8),
         ('L', (120, 50), (350, 51), 8),
     ] {
-        check_row(&rt, two(letter, first, last), number).note(format_args!(
-            "{letter} {first:?} {last:?}"
-        ))?;
+        check_row(&rt, two(letter, first, last), number);
     }
-    Ok(())
 }
