@@ -3,7 +3,8 @@
 
 mod call;
 mod given;
-mod giving;
+mod points;
+mod prices;
 
 pub use call::{Call, LineLimit, ParticipantTerm, Proposal, Requirement};
 pub use given::{BasePoints, ShadowPrices};
