@@ -1,7 +1,6 @@
 -- Rows without a fault are few and keep every rule.
-use Rattle.std.proofs.Common.{◌≡◌, ℕ, zero, suc, ◌<◌, ◌≤◌, Bool, true, false, cond, List, [], ◌∷◌, length, get_or, Some, None, Option, refl, arith}
+use Rattle.std.proofs.Common.{◌≡◌, ℕ, zero, suc, ◌<◌, ◌≤◌, Bool, true, false, cond, List, [], ◌∷◌, length, get_or, Some, None, refl, arith}
 use Rattle.std.proofs.lemmas.Bool.{leb-true}
-use Rattle.fault.specs.First.{or_else}
 use Rattle.fault.specs.declared.cause.Fault.{Fault}
 use Rattle.fault.proofs.First.{none_both, unbroken}
 use Rattle.block.specs.Rules.{Kept, broken, row_count_fault, fault_from, blocks_fault}

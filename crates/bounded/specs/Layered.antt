@@ -1,7 +1,7 @@
 -- Mitigation over a lawful book is a lawful book.
-use Rattle.std.proofs.Common.{◌≡◌, ℕ, ◌<◌, ◌≤◌, Bool, true, false, cond, ◌&&◌, ltb, leb, ◌⊎◌, ℤ, pos, negsuc, ◌≤ℤ◌, sym, refl, ap, ◌∙◌, subst, inl, inr, ⊎_elim, arith}
+use Rattle.std.proofs.Common.{◌≡◌, ℕ, ◌<◌, ◌≤◌, Bool, true, false, cond, ltb, leb, ℤ, pos, ◌≤ℤ◌, sym, refl, ap, ◌∙◌, ⊎_elim, arith}
 use lib.Signed.{lt_z}
-use Rattle.std.proofs.lemmas.Int.{ints, clamps, by_lt_z}
+use Rattle.std.proofs.lemmas.Int.{ints, clamps}
 use Rattle.std.proofs.lemmas.Bool.{and_parts, and_left, and_right, and_from, cases_lt, cases_Bool, cond-true, cond-false, cond_both, le-ltb, lt-leb, lt-ltb, le-leb}
 use Rattle.book.specs.Meaning.{Book, Lawful, generator, load, least_price, most_price}
 use Rattle.bounded.specs.Mitigation.{Terms, Layer, Measured, floor_of, ceiling_of, lowered, raised, mitigated, applied, bites, layered}

@@ -1,5 +1,5 @@
 -- Prices without a fault are fair: no line is priced that the step does not observe.
-use Rattle.std.proofs.Common.{◌≡◌, ℕ, ◌<◌, true, false, not, ◌&&◌, ℤ, pos, ◌≤ℤ◌, None, sym, ap, ◌∙◌, ⊎_elim, arith}
+use Rattle.std.proofs.Common.{◌≡◌, ℕ, not, pos, ◌≤ℤ◌, None, ⊎_elim, arith}
 use lib.Signed.{lt_z}
 use Rattle.std.proofs.lemmas.Int.{ints}
 use Rattle.std.proofs.lemmas.Bool.{and_cases, both_ways, not_from_false}

@@ -1,5 +1,5 @@
 -- No fault of a dispatch means that it is feasible.
-use Rattle.std.proofs.Common.{◌≡◌, ℕ, ◌<◌, ◌≤◌, Bool, true, false, not, ◌&&◌, ◌||◌, ltb, ◌≤ℤ◌, Some, None, sym, ap, ◌∙◌, ⊎_elim}
+use Rattle.std.proofs.Common.{◌≡◌, ℕ, false, ltb, None, ap, ◌∙◌, ⊎_elim}
 use lib.Signed.{lt_z}
 use Rattle.std.proofs.lemmas.Bool.{cases_Bool, both_ways, and_left, and_right, and_cases, or_parts, or_from, ltb-false, le-ltb, cond-true}
 use Rattle.fault.specs.First.{or_else}

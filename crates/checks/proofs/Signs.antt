@@ -1,5 +1,5 @@
 -- Tests of integers, and the orders that they decide.
-use Rattle.std.proofs.Common.{◌≡◌, true, false, ◌&&◌, ℤ, ◌≤ℤ◌, ◌<ℤ◌, subst, ⊎_elim, arith}
+use Rattle.std.proofs.Common.{◌≡◌, true, false, ℤ, ◌≤ℤ◌, subst, ⊎_elim, arith}
 use lib.Signed.{le_z, lt_z, ≤ℤ_refl}
 use Rattle.std.proofs.lemmas.Int.{ints}
 use Rattle.std.proofs.lemmas.Bool.{and_parts, and_from, cases_Bool}

@@ -1,6 +1,6 @@
 -- Quotients rounded down: they keep order, and a part of a whole lies between 0 and the whole.
-use Rattle.std.proofs.Common.{◌≡◌, ℕ, zero, suc, ◌+◌, ◌-◌, ◌*◌, ◌/◌, ◌<◌, ◌≤◌, ◌⊎◌, ℤ, pos, negsuc, ◌*ℤ◌, neg_ℤ, ◌≤ℤ◌, sym, refl, ap, ◌∙◌, inl, inr, le_trans, suc-mul, mul-le-mul_left, mul-zero, le-div_iff_mul-le, zero-mul, div-mul-le_self, mul-div_cancel, arith}
-use native.Mathlib.Nat.{zero-div, div-eq_of_lt-le, div-zero}
+use Rattle.std.proofs.Common.{◌≡◌, ℕ, zero, suc, ◌+◌, ◌*◌, ◌/◌, ◌≤◌, ℤ, pos, negsuc, ◌*ℤ◌, neg_ℤ, ◌≤ℤ◌, ap, ◌∙◌, le_trans, suc-mul, mul-le-mul_left, le-div_iff_mul-le, zero-mul, div-mul-le_self, mul-div_cancel, arith}
+use native.Mathlib.Nat.{zero-div, div-zero}
 use lib.Arith.{digits_div}
 use Rattle.std.proofs.lemmas.Int.{ints}
 use Rattle.curve.specs.Line.{floor_div}

@@ -1,9 +1,9 @@
 -- The laws of a lawful row's curve.
-use Rattle.std.proofs.Common.{◌≡◌, ℕ, zero, suc, ◌+◌, ◌-◌, ◌≤◌, Bool, true, false, cond, not, ◌&&◌, eqb, ltb, leb, ◌⊎◌, List, [], ◌∷◌, ◌++◌, length, get_or, ℤ, pos, negsuc, ◌-ℤ◌, ◌≤ℤ◌, is_err, Ok, Err, Result, sym, refl, ap, ◌∙◌, subst, inl, inr, ⊎_elim, arith}
-use lib.Signed.{le_z, le_z_yes}
+use Rattle.std.proofs.Common.{◌≡◌, ℕ, suc, ◌+◌, ◌-◌, ◌≤◌, Bool, true, false, cond, eqb, ltb, leb, List, [], ◌∷◌, ◌++◌, length, get_or, ℤ, pos, ◌≤ℤ◌, is_err, Ok, Result, sym, refl, ap, ◌∙◌, subst, ⊎_elim, arith}
+use lib.Signed.{le_z}
 use Rattle.std.proofs.lemmas.Int.{ints, clamps, by_lt_z}
 use Rattle.std.proofs.lemmas.Bool.{and_parts, not-false, cases_eq, ne_eqb, cond_both, leb-true, true≢false}
-use Rattle.std.specs.Int.{int_min, int_max}
+use Rattle.std.specs.Int.{int_min}
 use Rattle.fault.specs.declared.cause.Fault.{Fault}
 use Rattle.rows.specs.Classes.{class_of}
 use Rattle.rows.specs.Rules.{Lawful, points_of, is_load, floor_price, in_order}
@@ -13,8 +13,8 @@ use Rattle.rows.specs.declared.row.Point.{Point}
 use Rattle.rows.specs.declared.row.Row.{Row}
 use Rattle.rows.specs.declared.rule.Rule.TheVariants.{Letter, Prices}
 use Rattle.curve.specs.Line.{between, price_past, line_price}
-use Rattle.curve.specs.Complete.{at, near_floor, last_of, leading, trailing, scheduled, renewable, drawn, completed, curve_price, price_as, row_price, Moves, Sound}
-use Rattle.curve.proofs.Straight.{Falls, Ordered, Way, rising, falling, line_moves}
+use Rattle.curve.specs.Complete.{at, near_floor, last_of, leading, trailing, scheduled, renewable, drawn, completed, price_as, row_price, Moves, Sound}
+use Rattle.curve.proofs.Straight.{Falls, Ordered, rising, falling, line_moves}
 
 -- prices from lo to hi
 abbrev Inside : ℤ → ℤ → List Point → Type 0

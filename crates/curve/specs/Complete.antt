@@ -3,7 +3,7 @@ use Rattle.std.specs.Prelude.{◌≡◌, ℕ, ◌+◌, ◌-◌, ◌≤◌, min, 
 use Rattle.std.specs.Int.{int_min, int_max}
 use Rattle.fault.specs.declared.cause.Fault.{Fault}
 use Rattle.rows.specs.Classes.{class_of}
-use Rattle.rows.specs.Rules.{Lawful, points_of, is_load, floor_price}
+use Rattle.rows.specs.Rules.{points_of, is_load, floor_price}
 use Rattle.rows.specs.declared.class.Class.{Class}
 use Rattle.rows.specs.declared.class.Class.TheVariants.{Thermal, Renewable, Committed, Load}
 use Rattle.rows.specs.declared.row.Point.{Point}

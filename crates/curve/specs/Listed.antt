@@ -1,5 +1,5 @@
 -- A list of points in a table of thirteen.
-use Rattle.std.specs.Prelude.{ℕ, List, take}
+use Rattle.std.specs.Prelude.{List, take}
 use Rattle.rows.specs.declared.row.Point.{Point}
 use Rattle.curve.specs.declared.points.Points.{Points}
 

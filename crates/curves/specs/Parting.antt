@@ -1,5 +1,5 @@
 -- Where the prices of two books part.
-use Rattle.std.specs.Prelude.{ℕ, ◌+◌, Bool, cond, not, ◌&&◌, ℤ, int_le}
+use Rattle.std.specs.Prelude.{ℕ, ◌+◌, Bool, cond, not, ◌&&◌, int_le}
 use Rattle.book.specs.Meaning.{Book}
 
 -- whether participant i has one price at level q in both books

@@ -1,6 +1,5 @@
 -- How great a flow can be.
-use Rattle.std.proofs.Common.{ℕ, ℤ, pos, negsuc, ◌*ℤ◌, neg_ℤ, ◌≤ℤ◌, arith}
-use Rattle.std.proofs.lemmas.Int.{ints}
+use Rattle.std.proofs.Common.{ℕ, ℤ, pos, negsuc, ◌*ℤ◌, neg_ℤ, ◌≤ℤ◌}
 use Rattle.shelf.proofs.Product.{times_within}
 use Rattle.shelf.proofs.Sum.{sum_least, sum_most}
 use Rattle.network.specs.Grid.{Grid, flow_of, least_share, most_share}

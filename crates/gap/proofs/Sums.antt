@@ -1,12 +1,11 @@
 -- The gap from its two sums.
-use Rattle.std.proofs.Common.{◌≡◌, ℕ, cond, ℤ, pos, ◌+ℤ◌, ◌-ℤ◌, ◌*ℤ◌, ◌≤ℤ◌, sym, ap, ◌∙◌, subst}
+use Rattle.std.proofs.Common.{◌≡◌, ℕ, cond, ℤ, pos, ◌-ℤ◌, ◌*ℤ◌, ◌≤ℤ◌, sym, ap, ◌∙◌, subst}
 use Rattle.shelf.specs.Sum.{sum}
 use Rattle.shelf.proofs.Sum.{sum_same}
 use Rattle.book.specs.Meaning as Books
 use Rattle.book.specs.Meaning.{Book}
-use Rattle.network.specs.Grid.{Grid, flow_of}
+use Rattle.network.specs.Grid.{Grid}
 use Rattle.dispatch.specs.Injected.{injected}
-use Rattle.market.specs.Laws.{Settled}
 use Rattle.market.specs.Market.{Step, Prices, room, slack, gap, worth}
 use Rattle.market.proofs.Certificate.{duality, exactness}
 use Rattle.gap.specs.Certified.{Certified}

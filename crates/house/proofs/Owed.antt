@@ -1,9 +1,8 @@
 -- What a lawful row gives the unit that stands for it.
-use Rattle.std.proofs.Common.{◌≡◌, ℕ, ◌≤◌, Bool, true, false, cond, ◌&&◌, eqb, ltb, leb, ◌⊎◌, ℤ, pos, negsuc, ◌*ℤ◌, ◌≤ℤ◌, is_err, Ok, Err, Result, sym, refl, ap, ◌∙◌, subst, inl, inr, ⊎_elim, le_trans, arith}
+use Rattle.std.proofs.Common.{◌≡◌, ℕ, ◌≤◌, Bool, true, false, cond, ◌&&◌, eqb, ltb, leb, ◌⊎◌, ℤ, pos, negsuc, ◌*ℤ◌, ◌≤ℤ◌, is_err, Ok, sym, refl, ap, subst, inl, inr, ⊎_elim, le_trans, arith}
 use borrow.Author.Differences.{product_is}
 use Rattle.std.proofs.lemmas.Int.{ints}
 use Rattle.std.proofs.lemmas.Bool.{and_parts, not-false, or_parts, ltb-false, leb-true}
-use Rattle.fault.specs.declared.cause.Fault.{Fault}
 use Rattle.book.specs.Meaning.{generator, load}
 use Rattle.curve.specs.Complete.{Moves, Sound, row_price}
 use Rattle.curve.proofs.Sound.{by_letter}

@@ -1,5 +1,5 @@
 -- A unit of the house book and the row that it comes from.
-use Rattle.std.specs.Prelude.{◌≡◌, ℕ, cond, List, [], ◌∷◌, replicate, ℤ, pos, negsuc, Ok, Err, Result, refl}
+use Rattle.std.specs.Prelude.{◌≡◌, ℕ, cond, ℤ, pos, Ok, Err, Result}
 use Rattle.fault.specs.declared.cause.Fault.{Fault}
 use Rattle.book.specs.Meaning.{generator, load}
 use Rattle.curve.specs.Complete.{row_price, price_on}

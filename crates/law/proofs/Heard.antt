@@ -1,5 +1,5 @@
 -- What a history leaves is what its calls leave, one after another.
-use Rattle.std.proofs.Common.{◌≡◌, ℕ, Bool, true, false, cond, eqb, List, [], ◌∷◌, Some, None, Option, refl}
+use Rattle.std.proofs.Common.{◌≡◌, Bool, true, false, cond, eqb, List, [], ◌∷◌, Some, None, Option, refl}
 use Rattle.std.specs.Option.{option_map}
 use Rattle.fault.specs.declared.cause.Fault.{Fault}
 use Rattle.calls.specs.declared.call.Call.{Call}

@@ -1,5 +1,5 @@
 -- The law of runs.
-use Rattle.std.proofs.Common.{◌≡◌, ℕ, true, List, ◌∷◌, ℤ, pos, ◌-ℤ◌, ◌*ℤ◌, ◌≤ℤ◌, Some, None, Option, sym, refl, ap, ◌∙◌, subst, arith}
+use Rattle.std.proofs.Common.{◌≡◌, ℕ, List, pos, ◌-ℤ◌, ◌*ℤ◌, ◌≤ℤ◌, Some, None, Option, sym, refl, ap, ◌∙◌, subst, arith}
 use Rattle.std.proofs.lemmas.Int.{ints}
 use Rattle.std.proofs.lemmas.Bool.{cond-true}
 use Rattle.fault.specs.First.{or_else}
@@ -12,19 +12,19 @@ use Rattle.book.specs.Meaning.{Book}
 use Rattle.bounded.specs.Mitigation.{Measured}
 use Rattle.bounded.specs.Layered.{layered_lawful}
 use Rattle.network.specs.Grid.{Grid}
-use Rattle.market.specs.Laws.{Fair, Settled}
-use Rattle.market.specs.Market.{Step, Feasible, worth, gap}
+use Rattle.market.specs.Laws.{Fair}
+use Rattle.market.specs.Market.{Step, worth, gap}
 use Rattle.market.proofs.Certificate.{duality, exactness}
 use Rattle.feasible.specs.declared.stage.Stage.{Stage}
 use Rattle.feasible.specs.declared.stage.Stage.TheVariants.{First, Second}
-use Rattle.checks.specs.Causes.{count_fault, price_fault, unobserved_fault, form_fault, dispatch_fault, examined_fault, gap_fault, judged_fault}
-use Rattle.checks.specs.Proposed.{HeldStep, quoted, dispatched, weighed}
+use Rattle.checks.specs.Causes.{count_fault, price_fault, unobserved_fault, form_fault, dispatch_fault, gap_fault, judged_fault}
+use Rattle.checks.specs.Proposed.{HeldStep, quoted, dispatched}
 use Rattle.checks.proofs.Fair.{faultless_fair}
 use Rattle.checks.proofs.Feasible.{feasible_faultless}
 use Rattle.fault.proofs.First.{none_both}
 use Rattle.checks.proofs.Signs.{at_most}
-use Rattle.law.specs.After.{made, answered, state_after, replaced, held_as}
-use Rattle.law.specs.Declined.{fault_of, step_fault, asked_fault, proposal_fault}
+use Rattle.law.specs.After.{answered, state_after, replaced, held_as}
+use Rattle.law.specs.Declined.{step_fault, asked_fault, proposal_fault}
 use Rattle.law.specs.Law.{leaves, book_at, step_at, Certificate, Stands, Unopposed, LawOfRuns}
 use Rattle.law.specs.State.{State, held_in, layer_in, stage_of}
 use Rattle.law.proofs.Heard.{call_leaves}

@@ -1,17 +1,16 @@
 -- Whatever a run holds stands, after every call: it is feasible, its prices are fair, and its gap is the one defined.
-use Rattle.std.proofs.Common.{◌≡◌, ℕ, Bool, true, false, cond, ◌&&◌, ◌||◌, eqb, leb, List, [], ◌∷◌, ℤ, pos, ◌≤ℤ◌, Some, None, Option, sym, refl, ap, ◌∙◌, subst, arith}
+use Rattle.std.proofs.Common.{◌≡◌, ℕ, true, cond, ◌&&◌, eqb, List, [], ◌∷◌, pos, Some, None, Option, sym, refl, ◌∙◌, subst, arith}
 use lib.Signed.{le_z}
 use Rattle.std.proofs.lemmas.Int.{ints}
 use Rattle.std.proofs.lemmas.Bool.{and_parts, cond_both}
-use Rattle.fault.specs.First.{or_else}
-use Rattle.fault.specs.declared.cause.Cause.TheVariants.{Absent, Amount}
+use Rattle.fault.specs.declared.cause.Cause.TheVariants.{Amount}
 use Rattle.fault.specs.declared.cause.Fault.{Fault}
 use Rattle.calls.specs.declared.call.Call.{Call}
 use Rattle.calls.specs.declared.call.Call.TheVariants.{Require, Limit, Term, Propose}
 use Rattle.calls.specs.declared.call.ParticipantTerm.{ParticipantTerm}
 use Rattle.calls.specs.declared.call.Proposal.{Proposal}
 use Rattle.book.specs.Meaning.{Book, most_price, least_price}
-use Rattle.bounded.specs.Mitigation.{Terms, Measured, in_range}
+use Rattle.bounded.specs.Mitigation.{Measured, in_range}
 use Rattle.bounded.specs.Tabled.{terms_of, fresh_term}
 use Rattle.network.specs.Grid.{Grid}
 use Rattle.market.specs.Laws.{Fair}
@@ -26,9 +25,9 @@ use Rattle.fault.proofs.First.{none_both}
 use Rattle.checks.proofs.First.{unless_never}
 use Rattle.checks.proofs.Signs.{most_at}
 use Rattle.law.specs.After.{made, answered, state_after, term_in, replaced, held_as}
-use Rattle.law.specs.Declined.{fault_of, step_fault, term_fault, proposal_fault}
+use Rattle.law.specs.Declined.{fault_of, step_fault, term_fault}
 use Rattle.law.specs.Law.{leaves, book_at, step_at}
-use Rattle.law.specs.State.{Force, State, new_run, held_in, step_in, priced_book, stage_of}
+use Rattle.law.specs.State.{State, new_run, held_in, stage_of}
 use Rattle.law.proofs.Heard.{new_leaves, call_leaves}
 
 pub record Standing (m : Book) (g : Grid) (s : Step) (h : HeldStep) : Type 0 where

@@ -1,5 +1,5 @@
 -- What a call leaves, entry by entry and step by step.
-use Rattle.std.specs.Prelude.{ℕ, cond, Some, None, Option, ◌==◌}
+use Rattle.std.specs.Prelude.{cond, Some, None, Option, ◌==◌}
 use Rattle.fault.specs.declared.cause.Fault.{Fault}
 use Rattle.calls.specs.declared.call.Call.{Call}
 use Rattle.calls.specs.declared.call.Call.TheVariants.{Require, Limit, Term, Propose}
@@ -13,7 +13,7 @@ use Rattle.network.specs.Grid.{Grid}
 use Rattle.feasible.specs.declared.stage.Stage.{Stage}
 use Rattle.feasible.specs.declared.stage.Stage.TheVariants.{First, Second}
 use Rattle.checks.specs.Proposed.{HeldStep, weighed}
-use Rattle.law.specs.State.{Force, State, step_in, priced_book, stage_of}
+use Rattle.law.specs.State.{State, step_in, priced_book, stage_of}
 use Rattle.law.specs.Declined.{fault_of}
 
 abbrev pub term_in : ParticipantTerm → Terms

@@ -1,5 +1,5 @@
 -- Which calls are declined, by which cause and at which place: the first cause that applies, in the order of numbers.
-use Rattle.std.specs.Prelude.{ℕ, Bool, ◌&&◌, ◌||◌, is_some, Option, ◌==◌, nat_le, nat_lt}
+use Rattle.std.specs.Prelude.{◌&&◌, ◌||◌, is_some, Option, ◌==◌, nat_le, nat_lt}
 use Rattle.fault.specs.First.{or_else}
 use Rattle.fault.specs.declared.cause.Cause.TheVariants.{Absent, Amount, StepNumber}
 use Rattle.fault.specs.declared.cause.Fault.{Fault}
@@ -12,7 +12,7 @@ use Rattle.calls.specs.declared.call.Requirement.{Requirement}
 use Rattle.book.specs.Meaning.{Book}
 use Rattle.bounded.specs.Mitigation.{in_range}
 use Rattle.network.specs.Grid.{Grid}
-use Rattle.checks.specs.Causes.{form_fault, dispatch_fault, judged_fault}
+use Rattle.checks.specs.Causes.{form_fault, judged_fault}
 use Rattle.checks.specs.First.{unless}
 use Rattle.law.specs.State.{State, step_in, priced_book, stage_of}
 

@@ -1,5 +1,5 @@
 -- The law of runs: over every book, every network and every list of calls, the newest first.
-use Rattle.std.specs.Prelude.{◌≡◌, ℕ, List, ◌∷◌, ℤ, pos, ◌-ℤ◌, ◌*ℤ◌, ◌≤ℤ◌, Some, None, Option}
+use Rattle.std.specs.Prelude.{◌≡◌, ℕ, List, ◌∷◌, pos, ◌-ℤ◌, ◌*ℤ◌, ◌≤ℤ◌, Some, None}
 use Rattle.calls.specs.declared.call.Call.{Call}
 use Rattle.calls.specs.declared.call.Call.TheVariants.{Propose}
 use Rattle.calls.specs.declared.call.Proposal.{Proposal}

@@ -1,10 +1,10 @@
 -- Duality and exactness: why the gap is a certificate.
-use Rattle.std.proofs.Common.{◌≡◌, ℕ, zero, suc, ◌+◌, ◌-◌, ◌<◌, ◌≤◌, Bool, true, false, cond, ◌⊎◌, ℤ, pos, negsuc, ◌+ℤ◌, ◌-ℤ◌, ◌*ℤ◌, ◌≤ℤ◌, ◌<ℤ◌, sym, refl, ap, ◌∙◌, subst, inl, inr, ⊎_elim, suc-mul, arith}
+use Rattle.std.proofs.Common.{◌≡◌, ℕ, zero, suc, ◌+◌, ◌-◌, ◌<◌, ◌≤◌, Bool, true, false, cond, ◌⊎◌, ℤ, pos, negsuc, ◌-ℤ◌, ◌*ℤ◌, ◌≤ℤ◌, ◌<ℤ◌, refl, ap, ◌∙◌, inl, inr, ⊎_elim, suc-mul, arith}
 use lib.IntN.{zero-*ℤ, *ℤ-zero}
 use borrow.Author.Differences.{product_is}
-use Rattle.std.proofs.lemmas.Int.{ints, by_lt_z}
+use Rattle.std.proofs.lemmas.Int.{by_lt_z}
 use Rattle.shelf.specs.Sum.{sum}
-use Rattle.shelf.proofs.Product.{lin, times_positive, times_minus}
+use Rattle.shelf.proofs.Product.{lin, times_positive}
 use Rattle.shelf.proofs.Sum.{sum_positive, sum_nothing, sum_zero}
 use Rattle.book.specs.Meaning as Books
 use Rattle.book.specs.Meaning.{Book, generator, load}
@@ -12,9 +12,9 @@ use Rattle.network.specs.Grid.{Grid}
 use Rattle.dispatch.specs.Injected.{dispatch_flow}
 use Rattle.market.specs.Best.{best}
 use Rattle.market.specs.Laws.{Fair, Duality, Settled, Exactness}
-use Rattle.market.specs.Market.{Step, Prices, Feasible, room, lmp, gain, gain_at, gain_above, gains, best_gains, forgone, worth, slack, gap, LastObjects, NextObjects}
+use Rattle.market.specs.Market.{Step, Prices, Feasible, room, lmp, gain, gain_at, gain_above, forgone, slack, gap, LastObjects, NextObjects}
 use Rattle.market.proofs.Fronts.{front_least, front_reached, front_last, front_next}
-use Rattle.market.proofs.Identity.{dual, gap_is}
+use Rattle.market.proofs.Identity.{gap_is}
 
 module _ (m : Book) (g : Grid) (s : Step) (p : Prices) (x : ℕ → ℕ) (law : Books.Lawful m) (fair : Fair g s p) (ok : Feasible m g s x) where
   -- nothing that is forgone is negative

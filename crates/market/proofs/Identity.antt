@@ -1,18 +1,18 @@
 -- The one identity that carries the laws: the gap and 1,000 times the worth add up to a number that does not
 -- mention the dispatch.
-use Rattle.std.proofs.Common.{◌≡◌, ℕ, zero, suc, ◌+◌, ◌-◌, ◌<◌, ◌≤◌, Bool, true, false, cond, ℤ, pos, ◌+ℤ◌, ◌-ℤ◌, ◌*ℤ◌, neg_ℤ, ◌≤ℤ◌, sym, refl, ap, ◌∙◌, subst, arith}
+use Rattle.std.proofs.Common.{◌≡◌, ℕ, zero, suc, ◌+◌, ◌-◌, ◌<◌, ◌≤◌, Bool, true, false, cond, ℤ, pos, ◌+ℤ◌, ◌-ℤ◌, ◌*ℤ◌, sym, refl, ap, ◌∙◌, arith}
 use lib.IntN.{*ℤ_comm, *ℤ-zero, zero-*ℤ}
 use Rattle.std.proofs.lemmas.Int.{ints}
 use Rattle.shelf.specs.Sum.{sum}
 use Rattle.book.specs.Meaning as Books
 use Rattle.book.specs.Meaning.{Book}
 use Rattle.network.specs.Grid.{Grid}
-use Rattle.dispatch.specs.Injected.{injection, dispatch_flow, participant_flow}
+use Rattle.dispatch.specs.Injected.{injection, dispatch_flow}
 use Rattle.dispatch.proofs.Exchange.{flows_agree}
 use Rattle.market.specs.Laws.{Fair}
-use Rattle.market.specs.Market.{Step, Prices, Feasible, balance, due, room, lmp, gain_above, gains, best_gains, forgone, cost, worth, slack, gap}
+use Rattle.market.specs.Market.{Step, Prices, Feasible, balance, due, room, lmp, gains, best_gains, cost, worth, slack, gap}
 use Rattle.shelf.proofs.Product.{lin, times_sum, times_minus, minus_times, times_assoc, times_left, times_neg, times_one}
-use Rattle.shelf.proofs.Sum.{sum_none, sum_more, sum_same, sum_minus, sum_neg, sum_times, sum_swap}
+use Rattle.shelf.proofs.Sum.{sum_same, sum_minus, sum_neg, sum_times, sum_swap}
 
 -- a·(b − c·f t) over t, with the part that does not move taken out
 sum_split : (n : ℕ) (s a : ℤ) (f : ℕ → ℤ) → sum n (λ t. s *ℤ (a -ℤ (pos 1000 *ℤ f t))) ≡ ((s *ℤ a) *ℤ pos n) -ℤ (pos 1000 *ℤ (s *ℤ sum n f))

@@ -1,8 +1,7 @@
 -- Why the gap can be trusted when the solver cannot.
-use Rattle.std.specs.Prelude.{◌≡◌, ℕ, ◌<◌, false, ℤ, pos, ◌-ℤ◌, ◌*ℤ◌, ◌≤ℤ◌, ◌<ℤ◌}
+use Rattle.std.specs.Prelude.{◌≡◌, ℕ, ◌<◌, false, pos, ◌-ℤ◌, ◌*ℤ◌, ◌≤ℤ◌, ◌<ℤ◌}
 use Rattle.book.specs.Meaning as Books
 use Rattle.book.specs.Meaning.{Book}
-use Rattle.network.specs.Grid as Grids
 use Rattle.network.specs.Grid.{Grid}
 use Rattle.dispatch.specs.Injected.{dispatch_flow}
 use Rattle.market.specs.Market.{Step, Prices, Feasible, room, worth, gap, LastObjects, NextObjects}

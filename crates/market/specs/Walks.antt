@@ -1,5 +1,5 @@
 -- Walks along a participant's levels at a price.
-use Rattle.std.specs.Prelude.{◌≡◌, ℕ, suc, ◌-◌, ◌*◌, ◌<◌, ◌≤◌, cond, ◌&&◌, ℤ, pos, ◌-ℤ◌, neg_ℤ, ◌≤ℤ◌, Some, None, Option, nat_le, nat_lt}
+use Rattle.std.specs.Prelude.{◌≡◌, ℕ, suc, ◌<◌, ◌≤◌, cond, ◌&&◌, ℤ, pos, ◌-ℤ◌, neg_ℤ, ◌≤ℤ◌, Some, None, Option, nat_le, nat_lt}
 use Rattle.book.specs.Meaning.{Book}
 use Rattle.network.specs.Grid.{Grid}
 use Rattle.market.specs.Market.{Prices, gain_at, gains_up, forgone_at, lmp}

@@ -1,5 +1,5 @@
 -- The rows and lines of the widest market, from lists of prices and shares; a list that is too short goes on with 0.
-use Rattle.std.specs.Prelude.{ℕ, suc, ◌+◌, ◌*◌, List, get_or, ℤ, pos, slice_index_or}
+use Rattle.std.specs.Prelude.{ℕ, ◌+◌, ◌*◌, List, get_or, ℤ, pos, slice_index_or}
 use Rattle.rows.specs.declared.row.Point.{Point}
 use Rattle.rows.specs.declared.row.Row.{Row}
 use Rattle.measure.specs.Listed.{listed}

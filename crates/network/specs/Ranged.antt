@@ -1,10 +1,10 @@
 -- Shares in range, and tables of them.
-use Rattle.std.specs.Prelude.{◌≡◌, ℕ, zero, suc, ◌<◌, ◌≤◌, Bool, true, false, cond, ◌&&◌, List, [], ◌∷◌, length, get_or, ℤ, pos, ◌≤ℤ◌, int_le, slice_index_or, refl}
+use Rattle.std.specs.Prelude.{◌≡◌, ℕ, zero, suc, ◌<◌, ◌≤◌, true, ◌&&◌, List, [], ◌∷◌, length, get_or, ℤ, pos, ◌≤ℤ◌, int_le, slice_index_or}
 use Rattle.std.proofs.Common.{arith, ⊎_elim, sym, ap, subst, ◌∙◌}
 use Rattle.std.proofs.lemmas.List.{get_or_past}
 use Rattle.std.proofs.lemmas.Int.{ints}
 use Rattle.std.proofs.lemmas.Bool.{and_parts, cases_lt, cond-true, cond-false, lt-ltb, le-ltb}
-use Rattle.network.specs.Grid.{Grid, Lawful, least_share, most_share}
+use Rattle.network.specs.Grid.{Lawful, least_share, most_share}
 use Rattle.network.specs.Table.{ranged, grid_of, tabled, share_of, no_shares}
 use Rattle.network.specs.declared.shares.Shares.{Shares}
 

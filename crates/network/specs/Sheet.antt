@@ -1,5 +1,5 @@
 -- What a sheet of injections holds.
-use Rattle.std.specs.Prelude.{ℕ, Bool, cond, ◌&&◌, ℤ, pos, negsuc, int_le, nat_lt, slice_index_or}
+use Rattle.std.specs.Prelude.{ℕ, Bool, ◌&&◌, ℤ, pos, negsuc, int_le, nat_lt, slice_index_or}
 use Rattle.network.specs.declared.injections.Injections.{Injections}
 
 -- the injection at bus b; 0 at a bus that is not there

@@ -1,5 +1,5 @@
 -- What a table network means, and what rows of shares mean as one.
-use Rattle.std.specs.Prelude.{ℕ, suc, Bool, true, false, cond, ◌&&◌, List, [], ◌∷◌, length, replicate, ℤ, pos, negsuc, ◌*ℤ◌, ◌≤ℤ◌, Some, None, Option, int_le, nat_le, nat_lt, slice_index_or, refl}
+use Rattle.std.specs.Prelude.{ℕ, suc, Bool, true, cond, ◌&&◌, List, [], ◌∷◌, length, replicate, ℤ, pos, ◌*ℤ◌, ◌≤ℤ◌, Some, None, Option, int_le, nat_le, nat_lt, slice_index_or, refl}
 use Rattle.std.proofs.Common.{sym, subst}
 use Rattle.fault.specs.First.{or_else}
 use Rattle.fault.specs.declared.cause.Cause.TheVariants.{LineCount, ShareRange}

@@ -1,5 +1,5 @@
 -- Base points within limits are such as a dispatch can hold.
-use Rattle.std.proofs.Common.{◌≡◌, ℕ, suc, ◌≤◌, Bool, true, false, cond, ltb, leb, List, [], ◌∷◌, length, Some, None, Option, sym, refl, ap, ◌∙◌, true≢false, arith}
+use Rattle.std.proofs.Common.{◌≡◌, ℕ, suc, ◌≤◌, Bool, true, false, cond, ltb, leb, List, [], ◌∷◌, length, Some, None, Option, refl, arith}
 use Rattle.std.proofs.lemmas.Bool.{and_from, or_parts, le-leb, ltb-false}
 use Rattle.fault.specs.declared.cause.Fault.{Fault}
 use Rattle.book.specs.Meaning.{Book}

@@ -1,7 +1,5 @@
 -- Rows without a fault keep every rule.
-use Rattle.std.proofs.Common.{◌≡◌, ℕ, zero, suc, ◌<◌, Bool, true, false, cond, List, [], ◌∷◌, length, get_or, Some, None, Option, sym, refl, ◌∙◌, arith}
-use Rattle.fault.specs.First.{or_else}
-use Rattle.fault.specs.declared.cause.Fault.{Fault}
+use Rattle.std.proofs.Common.{◌≡◌, ℕ, zero, suc, ◌<◌, false, List, [], ◌∷◌, length, get_or, None, arith}
 use Rattle.fault.proofs.First.{none_both, unbroken}
 use Rattle.rows.specs.Rules.{Lawful, broken, cap_fault, row_count_fault, fault_from, rows_fault}
 use Rattle.rows.specs.declared.row.Row.{Row}

@@ -1,5 +1,5 @@
 -- A table that is filled place by place.
-use Rattle.std.proofs.Common.{◌≡◌, ℕ, ◌+◌, ◌<◌, ◌≢◌, List, length, get_or, set, ◌∙◌, arith, length-set, get_or-set_other, get_or-set_same, below_more}
+use Rattle.std.proofs.Common.{◌≡◌, ℕ, ◌+◌, ◌<◌, ◌≢◌, List, length, get_or, set, arith, length-set, get_or-set_other, get_or-set_same, below_more}
 
 -- one place more has the value of the function
 pub filled_more : {X : Type 0} (xs : List X) (i n : ℕ) (v d : X) (f : ℕ → X) → length xs ≡ n → i < n → ((k : ℕ) → k < i → get_or xs k d ≡ f k) → v ≡ f i

@@ -1,9 +1,8 @@
 -- A term that is in range replaces the one in force.
-use Rattle.std.proofs.Common.{◌≡◌, ℕ, ◌<◌, Bool, true, false, cond, ◌&&◌, eqb, ltb, Some, None, sym, refl, ap, ◌∙◌, arith}
+use Rattle.std.proofs.Common.{◌≡◌, ℕ, ◌<◌, Bool, true, false, cond, ◌&&◌, eqb, ltb, None, refl, ap, ◌∙◌}
 use Rattle.std.proofs.lemmas.Bool.{lt-ltb, cond-true}
 use Rattle.fault.specs.First.{or_else}
 use Rattle.fault.specs.declared.cause.Cause.TheVariants.{Amount}
-use Rattle.calls.specs.declared.call.Call.TheVariants.{Term}
 use Rattle.calls.specs.declared.call.ParticipantTerm.{ParticipantTerm}
 use Rattle.book.specs.Meaning.{Book}
 use Rattle.bounded.specs.Mitigation.{Terms, Layer, in_range}

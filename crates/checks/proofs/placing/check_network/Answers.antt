@@ -1,4 +1,4 @@
-use Rattle.std.proofs.Common.{◌≡◌, Some, None, Option, ap, ◌∙◌, rules}
+use Rattle.std.proofs.Common.{ap, ◌∙◌, rules}
 use Rattle.std.proofs.lemmas.Bool.{cond-true, cond-false}
 use Rattle.fault.specs.First.{or_else}
 use Rattle.fault.specs.declared.cause.Cause.TheVariants.{FlowLimit}
@@ -6,7 +6,7 @@ use Rattle.dispatch.specs.Base.{base_of}
 use Rattle.feasible.specs.Checks.{Carried}
 use Rattle.feasible.specs.Places.{Everywhere, FirstFailing}
 use Rattle.feasible.specs.Stages.{step_of}
-use Rattle.checks.specs.Causes.{balance_fault, flow_fault, overloaded}
+use Rattle.checks.specs.Causes.{flow_fault, overloaded}
 use Rattle.checks.specs.First.{placed}
 use Rattle.checks.proofs.Feasible.{carried_light, light_carried}
 use Rattle.checks.proofs.First.{first_failing, nowhere_failing}

@@ -1,6 +1,5 @@
-use Rattle.std.proofs.Common.{◌≡◌, ℕ, ◌+◌, ◌-◌, ◌<◌, ◌≤◌, Bool, true, false, cond, List, [], ◌∷◌, ◌++◌, length, get_or, pos, sym, refl, ap, ◌∙◌, arith, rules}
+use Rattle.std.proofs.Common.{◌≡◌, ◌<◌, ◌≤◌, Bool, true, false, cond, List, [], ◌∷◌, ◌++◌, length, get_or, pos, ap, ◌∙◌, arith, rules}
 use Rattle.std.proofs.lemmas.List.{length-append, take_all}
-use Rattle.rows.specs.Rules.{points_of}
 use Rattle.rows.specs.declared.row.Point.{Point}
 use Rattle.rows.specs.declared.row.Row.{Row}
 use Rattle.curve.specs.Complete.{at, leading, trailing, last_of, drawn}

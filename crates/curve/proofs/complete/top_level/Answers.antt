@@ -1,4 +1,4 @@
-use Rattle.std.proofs.Common.{◌≡◌, ℕ, ◌≤◌, List, [], ◌∷◌, length, refl, arith, rules}
+use Rattle.std.proofs.Common.{◌≡◌, ◌≤◌, List, [], ◌∷◌, length, refl, arith, rules}
 use Rattle.rows.specs.declared.row.Point.{Point}
 use Rattle.curve.specs.Complete.{last_of}
 use Rattle.curve.proofs.complete.top_level.Goals as goal

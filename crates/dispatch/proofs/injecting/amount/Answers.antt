@@ -1,4 +1,4 @@
-use Rattle.std.proofs.Common.{ℤ, pos, ◌*ℤ◌, refl, arith, w8, w32, SFits}
+use Rattle.std.proofs.Common.{pos, ◌*ℤ◌, refl, arith, w32, SFits}
 use Rattle.std.proofs.lemmas.Int.{ints, to_z-of_z, to_z_pos}
 use Rattle.shelf.proofs.Product.{times_within}
 use Rattle.dispatch.proofs.injecting.amount.Goals as goal

@@ -1,10 +1,9 @@
-use Rattle.std.proofs.Common.{◌≡◌, ℕ, ◌*◌, ◌≤◌, cond, eqb, ℤ, pos, ◌+ℤ◌, ◌*ℤ◌, sym, ap, ◌∙◌, arith, w8, w32, SFits, to_z, of_z}
+use Rattle.std.proofs.Common.{◌≡◌, cond, eqb, ◌+ℤ◌, sym, ap, ◌∙◌, arith, w8, w32, to_z, of_z}
 use Rattle.std.proofs.lemmas.Int.{ints, to_z-of_z}
 use Rattle.shelf.proofs.Sum.{sum_none}
-use Rattle.book.specs.Meaning.{Book}
 use Rattle.network.specs.Sheet.{sheet_of}
 use Rattle.dispatch.specs.Base.{base_of}
-use Rattle.dispatch.specs.Injected.{injection, injected_by}
+use Rattle.dispatch.specs.Injected.{injection}
 use Rattle.dispatch.proofs.Exchange.{side_range, injected_range, injected_more}
 use Rattle.dispatch.proofs.injecting.injections_of.Goals as goal
 

@@ -1,4 +1,4 @@
-use Rattle.std.proofs.Common.{◌≡◌, ℕ, ◌≤◌}
+use Rattle.std.proofs.Common.{◌≡◌, ℕ}
 use Rattle.network.specs.Sheet.{sheet_of}
 use Rattle.dispatch.specs.Base.{base_of}
 use Rattle.dispatch.specs.Injected.{injected_by}

@@ -1,8 +1,7 @@
-use Rattle.std.proofs.Common.{◌≡◌, rules}
+use Rattle.std.proofs.Common.{rules}
 use Rattle.dispatch.specs.Base.{base_of}
-use Rattle.market.specs.Market.{balance, due}
 use Rattle.feasible.specs.Checks.{Within, Carried}
-use Rattle.feasible.specs.Places.{Everywhere, FirstFailing}
+use Rattle.feasible.specs.Places.{Everywhere}
 use Rattle.feasible.specs.Stages.{step_of}
 use Rattle.feasible.proofs.verdict.infeasible.Goals as goal
 

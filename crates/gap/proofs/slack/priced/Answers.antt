@@ -1,4 +1,4 @@
-use Rattle.std.proofs.Common.{ℤ, pos, negsuc, ◌*ℤ◌, ◌≤ℤ◌, refl, arith, w64, SFits}
+use Rattle.std.proofs.Common.{pos, negsuc, ◌*ℤ◌, ◌≤ℤ◌, refl, arith, w64, SFits}
 use Rattle.std.proofs.lemmas.Int.{ints, to_z-of_z, to_z_pos}
 use Rattle.shelf.proofs.Product.{times_within}
 use Rattle.gap.proofs.slack.priced.Goals as goal

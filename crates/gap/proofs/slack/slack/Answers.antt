@@ -1,11 +1,10 @@
-use Rattle.std.proofs.Common.{◌≡◌, true, cond, ℤ, pos, ◌-ℤ◌, ◌*ℤ◌, sym, ap, ◌∙◌, w64, SFits, rules}
+use Rattle.std.proofs.Common.{◌≡◌, true, cond, ℤ, pos, ◌-ℤ◌, ◌*ℤ◌, sym, ap, ◌∙◌, w64, rules}
 use Rattle.std.proofs.lemmas.Int.{to_z-of_z}
 use Rattle.network.specs.Grid.{flow_of}
 use Rattle.network.specs.Sheet.{sheet_of}
 use Rattle.market.specs.Market.{room}
 use Rattle.market.specs.Quoted.{prices_of}
 use Rattle.feasible.specs.Stages.{step_of}
-use Rattle.gap.specs.Slack.{slack_at}
 use Rattle.gap.proofs.slack.slack.Goals as goal
 
 pub returns-then-observes : goal.returns-then-observes

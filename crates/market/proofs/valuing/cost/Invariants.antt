@@ -1,4 +1,4 @@
-use Rattle.std.proofs.Common.{◌≡◌, ℕ, suc, ◌+◌, ◌-◌, ◌*◌, ◌≤◌, max, pos, neg_ℤ, ◌≤ℤ◌}
+use Rattle.std.proofs.Common.{◌≡◌, ◌*◌, ◌≤◌, max, pos, neg_ℤ, ◌≤ℤ◌}
 use Rattle.market.specs.Market.{cost}
 use Rattle.market.proofs.valuing.cost.Given as goal
 

@@ -1,8 +1,8 @@
-use Rattle.std.proofs.Common.{◌≡◌, ℕ, suc, ◌+◌, ◌-◌, ◌*◌, ◌<◌, ◌≤◌, ℤ, pos, negsuc, ◌+ℤ◌, ◌-ℤ◌, neg_ℤ, ◌≤ℤ◌, sym, refl, ap, ◌∙◌, subst, add-one, arith, w64, SFits, to_z, of_z}
+use Rattle.std.proofs.Common.{◌≡◌, ℕ, suc, ◌+◌, ◌-◌, ◌*◌, ◌<◌, ◌≤◌, ℤ, pos, ◌+ℤ◌, ◌≤ℤ◌, ◌∙◌, subst, add-one, arith, w64, SFits}
 use Rattle.std.proofs.lemmas.Int.{ints, to_z-of_z}
 use Rattle.book.specs.Meaning.{Book}
-use Rattle.market.specs.Market.{gain_at, gains_up}
-use Rattle.market.specs.Walks.{Walked, Climbed}
+use Rattle.market.specs.Market.{gain_at}
+use Rattle.market.specs.Walks.{Climbed}
 use Rattle.market.proofs.Walks.{At, starts, gains_more, total_fits, total_least, total_most}
 use Rattle.market.proofs.walking.climb.Goals as goal
 

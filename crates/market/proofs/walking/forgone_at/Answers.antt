@@ -1,9 +1,9 @@
-use Rattle.std.proofs.Common.{◌≡◌, ℕ, suc, ◌+◌, ◌-◌, ◌<◌, ◌≤◌, ℤ, pos, ◌+ℤ◌, ◌-ℤ◌, neg_ℤ, ◌≤ℤ◌, sym, ap, ◌∙◌, subst, ⊎_elim, arith, w64, SFits}
+use Rattle.std.proofs.Common.{◌≡◌, ℕ, suc, ◌+◌, ◌-◌, ◌<◌, ◌≤◌, ℤ, pos, ◌+ℤ◌, neg_ℤ, ◌≤ℤ◌, sym, subst, ⊎_elim, arith, w64, SFits}
 use Rattle.std.proofs.lemmas.Int.{ints, to_z-of_z}
 use Rattle.std.proofs.lemmas.Bool.{cases_lt}
 use Rattle.book.specs.Meaning as Books
 use Rattle.book.specs.Meaning.{Book}
-use Rattle.market.specs.Market.{gain_at, gains_up, forgone_at}
+use Rattle.market.specs.Market.{gain_at, forgone_at}
 use Rattle.market.specs.Walks.{Climbed, Descended, Moderate}
 use Rattle.market.proofs.Certificate.{gains_fall}
 use Rattle.market.proofs.Fronts.{front_reached}

@@ -1,4 +1,4 @@
-use Rattle.std.proofs.Common.{sym, ◌∙◌, arith, w16}
+use Rattle.std.proofs.Common.{◌∙◌, arith, w16}
 use Rattle.std.proofs.lemmas.Int.{to_z-of_z}
 use Rattle.measure.proofs.Listed.{one_filled, all_filled}
 use Rattle.measure.proofs.lines.line_at.Goals as goal

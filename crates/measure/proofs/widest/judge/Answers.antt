@@ -1,4 +1,4 @@
-use Rattle.std.proofs.Common.{◌≡◌, ℕ, true, pos, ap, ◌∙◌, w32}
+use Rattle.std.proofs.Common.{◌≡◌, true, pos, ap, ◌∙◌, w32}
 use Rattle.std.proofs.lemmas.Int.{to_z-of_z}
 use Rattle.dispatch.specs.Base.{base_of}
 use Rattle.feasible.specs.Stages.{step_of}

@@ -1,4 +1,4 @@
-use Rattle.std.proofs.Common.{◌≡◌, ℤ, pos, negsuc, ◌*ℤ◌, neg_ℤ, ◌≤ℤ◌, arith, w16, w32, w64, SFits}
+use Rattle.std.proofs.Common.{◌*ℤ◌, arith, w64, SFits}
 use Rattle.std.proofs.lemmas.Int.{ints, to_z-of_z}
 use Rattle.shelf.proofs.Product.{times_within}
 use Rattle.network.proofs.flow.part.Goals as goal

@@ -1,4 +1,4 @@
-use Rattle.std.proofs.Common.{◌≡◌, ◌≤◌, length, sym, ◌∙◌, true≢false, arith}
+use Rattle.std.proofs.Common.{◌≤◌, length, sym, ◌∙◌, true≢false, arith}
 use Rattle.replay.proofs.Reach.{within_holds}
 use Rattle.replay.proofs.limits.dispatch_of.Goals as goal
 

@@ -1,4 +1,4 @@
-use Rattle.std.proofs.Common.{◌≡◌, ◌<◌, pos, ◌∙◌, arith, w32, to_z, of_z}
+use Rattle.std.proofs.Common.{◌<◌, pos, ◌∙◌, arith, w32, to_z, of_z}
 use Rattle.std.proofs.lemmas.Int.{to_z-of_z}
 use Rattle.market.specs.Quoted.{prices_of}
 use Rattle.law.specs.State.{reference}

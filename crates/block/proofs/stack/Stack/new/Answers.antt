@@ -13,6 +13,10 @@ pub invariant_of-result : goal.invariant_of-result
 invariant_of-result c =
     let s = sound c.args.row.now c.requires in
     record {
-      site = s.site; whole = c.total-high.ensures ∙ ap sizes c.submitted.ensures.value; highest = s.highest; least = s.least; most = s.most;
+      site = s.site;
+      whole = c.total-high.ensures ∙ ap sizes c.submitted.ensures.value;
+      highest = s.highest;
+      least = s.least;
+      most = s.most;
       rises = s.rises;
     }

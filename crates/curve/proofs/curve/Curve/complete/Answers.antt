@@ -1,5 +1,4 @@
-use Rattle.std.proofs.Common.{◌≡◌, ℕ, Ok, sym, ap, ◌∙◌, rules}
-use Rattle.rows.specs.Classes.{class_of}
+use Rattle.std.proofs.Common.{◌≡◌, ℕ, sym, ap, ◌∙◌, rules}
 use Rattle.rows.specs.declared.row.Row.{Row}
 use Rattle.curve.specs.Complete.{Completes, completed, curve_price, price_as, price_on, row_price}
 use Rattle.curve.specs.declared.curve.Curve.{Curve}

@@ -1,4 +1,4 @@
-use Rattle.std.proofs.Common.{◌≡◌, refl, ap, ◌∙◌}
+use Rattle.std.proofs.Common.{ap}
 use Rattle.curve.specs.Line.{line_price}
 use Rattle.curve.proofs.curve.Curve.empty.Goals as goal
 

@@ -1,8 +1,8 @@
-use Rattle.std.proofs.Common.{◌≡◌, ◌+◌, ◌-◌, cond, ltb, [], ◌∷◌, ◌++◌, sym, ap, ◌∙◌, arith, w32, SFits, to_z, of_z, rules}
+use Rattle.std.proofs.Common.{◌≡◌, ◌∙◌, w32, SFits, to_z, of_z, rules}
 use Rattle.std.proofs.lemmas.Int.{to_z-of_z}
 use Rattle.std.specs.Int.{int_min}
-use Rattle.curve.specs.Complete.{at, near_floor}
-use Rattle.curve.specs.Listed.{listed, kept}
+use Rattle.curve.specs.Complete.{near_floor}
+use Rattle.curve.specs.Listed.{listed}
 use Rattle.curve.proofs.Kept.{kept_both}
 use Rattle.curve.proofs.points.Points.lead.Goals as goal
 

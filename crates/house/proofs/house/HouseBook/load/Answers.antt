@@ -1,4 +1,4 @@
-use Rattle.std.proofs.Common.{◌≡◌, get_or, refl, subst}
+use Rattle.std.proofs.Common.{get_or, refl, subst}
 use Rattle.house.specs.House.{blank, nobody}
 use Rattle.house.specs.Unit.{Stands}
 use Rattle.house.proofs.Booked.{means}

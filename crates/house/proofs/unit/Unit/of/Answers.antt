@@ -1,11 +1,11 @@
-use Rattle.std.proofs.Common.{◌≡◌, ℕ, ◌≤◌, ℤ, pos, ◌*ℤ◌, ◌≤ℤ◌, is_err, Ok, sym, ap, ◌∙◌, subst, w8, to_z, of_z, rules}
+use Rattle.std.proofs.Common.{◌≡◌, ℕ, ◌≤◌, pos, ◌*ℤ◌, ◌≤ℤ◌, is_err, Ok, sym, ap, ◌∙◌, subst, w8, to_z, of_z}
 use Rattle.std.proofs.lemmas.Int.{to_z-of_z}
 use Rattle.std.proofs.lemmas.Bool.{true≢false}
-use Rattle.book.specs.Meaning.{generator, least_price, most_price}
+use Rattle.book.specs.Meaning.{least_price, most_price}
 use Rattle.curve.specs.Complete.{Sound, price_on, row_price}
 use Rattle.rows.specs.Classes.{class_of}
 use Rattle.rows.specs.declared.rule.Rule.TheVariants.{Letter}
-use Rattle.house.specs.Unit.{side_of, row_reading}
+use Rattle.house.specs.Unit.{side_of}
 use Rattle.house.proofs.Owed.{unit_limits, unit_bus, unit_reading, unit_sided, unit_unread, unit_moves}
 use Rattle.house.proofs.unit.Unit.of.Goals as goal
 

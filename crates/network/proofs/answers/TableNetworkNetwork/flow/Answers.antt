@@ -1,4 +1,4 @@
-use Rattle.std.proofs.Common.{pos, ◌*ℤ◌, sym, ap, ◌∙◌}
+use Rattle.std.proofs.Common.{◌*ℤ◌, sym, ap, ◌∙◌}
 use lib.IntN.{zero-*ℤ}
 use Rattle.std.proofs.lemmas.Bool.{cond-false, le-ltb}
 use Rattle.shelf.proofs.Sum.{sum_zero}

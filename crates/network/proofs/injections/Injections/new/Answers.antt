@@ -1,4 +1,4 @@
-use Rattle.std.proofs.Common.{ℤ, pos, negsuc, ◌≤ℤ◌, sym, refl, subst, arith}
+use Rattle.std.proofs.Common.{pos, negsuc, ◌≤ℤ◌, sym, refl, subst, arith}
 use Rattle.std.proofs.lemmas.Int.{ints}
 use Rattle.shelf.proofs.Lists.{throughout}
 use Rattle.network.proofs.injections.Injections.new.Goals as goal

@@ -1,4 +1,4 @@
-use Rattle.std.proofs.Common.{◌≡◌, ℤ, pos, negsuc, ◌≤ℤ◌, refl, ◌∙◌, arith}
+use Rattle.std.proofs.Common.{pos, negsuc, ◌≤ℤ◌, ◌∙◌, arith}
 use Rattle.std.proofs.lemmas.List.{length-set}
 use Rattle.std.proofs.lemmas.Int.{ints}
 use Rattle.shelf.proofs.Lists.{still}

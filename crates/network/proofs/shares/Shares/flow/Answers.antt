@@ -1,9 +1,9 @@
-use Rattle.std.proofs.Common.{◌≡◌, ℕ, ◌+◌, ℤ, pos, ◌+ℤ◌, ◌*ℤ◌, sym, ◌∙◌, add-one, arith, w16, w32, SFits, rules}
+use Rattle.std.proofs.Common.{◌≡◌, ℕ, ◌+◌, ℤ, ◌+ℤ◌, ◌*ℤ◌, sym, ◌∙◌, add-one, arith, w16, w32, SFits}
 use Rattle.std.proofs.lemmas.Int.{ints, to_z-of_z}
 use Rattle.shelf.specs.Sum.{sum}
 use Rattle.shelf.proofs.Sum.{sum_none, sum_more}
 use Rattle.network.specs.Sheet.{sheet_of}
-use Rattle.network.specs.Table.{share_of, line_flow}
+use Rattle.network.specs.Table.{share_of}
 use Rattle.network.proofs.shares.Shares.flow.Goals as goal
 
 pub loop-bus-init : goal.loop-bus-init

@@ -1,4 +1,4 @@
-use Rattle.std.proofs.Common.{refl, arith}
+use Rattle.std.proofs.Common.{refl}
 use Rattle.network.specs.Table.{no_shares}
 use Rattle.network.proofs.shares.Shares.none.Goals as goal
 

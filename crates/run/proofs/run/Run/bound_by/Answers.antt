@@ -1,5 +1,4 @@
-use Rattle.std.proofs.Common.{◌≡◌, ℕ, ◌<◌, true, get_or, ℤ, pos, Some, refl, ap, ◌∙◌, subst}
-use Rattle.book.specs.Meaning.{Book}
+use Rattle.std.proofs.Common.{◌≡◌, ℕ, ◌<◌, get_or, pos, Some, refl, ap, ◌∙◌, subst}
 use Rattle.bounded.specs.Mitigation.{layered}
 use Rattle.bounded.specs.Tabled.{layer_of}
 use Rattle.bounded.specs.Layered.{layered_same}
