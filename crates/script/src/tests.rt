@@ -177,10 +177,10 @@ fn base_of(line: &str) -> Result<BasePoints, &'static str> {
 
 #[test]
 fn base_points(rt: HostRuntime) -> Result<(), Fail> {
-    assert_eq!(rt; base_of("base")?.as_slice(), &[]);
+    assert_eq!(rt; base_of("base")?.as_slice(), [].as_slice());
     assert_eq!(rt;
         base_of("base 250 0 70000 # 1")?.as_slice(),
-        &[250, 0, 65535]
+        [250, 0, 65535].as_slice()
     );
     let most =
         "base 1 2 3 4 5 6 7 8 1 2 3 4 5 6 7 8 1 2 3 4 5 6 7 8 1 2 3 4 5 6 7 8 1 2 3 4 5 6 7 8 1 2 3 4 5 6 7 8 1 2 3 4 5 6 7 8 1 2 3 4 5 6 7 8";

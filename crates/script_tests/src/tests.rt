@@ -195,10 +195,10 @@ fn base_of(line: &str) -> Result<BasePoints, &'static str> {
 
 #[test]
 fn base_points(rt: HostRuntime) -> Result<(), Fail> {
-    assert_eq!(rt; base_of("base")?.as_slice(), &[]);
+    assert_eq!(rt; base_of("base")?.as_slice(), [].as_slice());
     assert_eq!(rt;
         base_of("base 250 0 70000 # 1")?.as_slice(),
-        &[250, 0, 65535]
+        [250, 0, 65535].as_slice()
     );
     let most =
         "base 1 2 3 4 5 6 7 8 1 2 3 4 5 6 7 8 1 2 3 4 5 6 7 8 1 2 3 4 5 6 7 8 1 2 3 4 5 6 7 8 1 2 3 4 5 6 7 8 1 2 3 4 5 6 7 8 1 2 3 4 5 6 7 8";
@@ -266,15 +266,15 @@ fn proposal_of(line: &str) -> Result<Proposal, &'static str> {
 fn proposals(rt: HostRuntime) -> Result<(), Fail> {
     let usual = proposal_of("propose 1 3500 0 7 / 250 0 # 9")?;
     assert!(rt; usual.step == 1 && usual.system == 3500);
-    assert_eq!(rt; usual.shadow.as_slice(), &[0, 7]);
-    assert_eq!(rt; usual.base.as_slice(), &[250, 0]);
+    assert_eq!(rt; usual.shadow.as_slice(), [0, 7].as_slice());
+    assert_eq!(rt; usual.base.as_slice(), [250, 0].as_slice());
     let bare = proposal_of("propose 0 -99999999999 /")?;
     assert!(rt; bare.step == 0 && bare.system == -2147483648);
     assert!(rt; bare.shadow.count == 0 && bare.base.count == 0);
     let large = proposal_of("propose 256 99999999999 4294967296 / 65536")?;
     assert!(rt; large.step == 255 && large.system == 2147483647);
-    assert_eq!(rt; large.shadow.as_slice(), &[4294967295]);
-    assert_eq!(rt; large.base.as_slice(), &[65535]);
+    assert_eq!(rt; large.shadow.as_slice(), [4294967295].as_slice());
+    assert_eq!(rt; large.base.as_slice(), [65535].as_slice());
     Ok(())
 }
 
@@ -291,7 +291,7 @@ fn many_shadow_prices(rt: HostRuntime) -> Result<(), Fail> {
     )?;
     assert_eq!(rt; more.shadow.count, 33);
     assert_eq!(rt; more.shadow.prices[31], 32);
-    assert_eq!(rt; more.base.as_slice(), &[1]);
+    assert_eq!(rt; more.base.as_slice(), [1].as_slice());
     Ok(())
 }
 
@@ -301,8 +301,8 @@ fn weighed(rt: HostRuntime) -> Result<(), Fail> {
         return Err(Fail::new("nothing to weigh"));
     };
     assert!(rt; proposal.step == 1 && proposal.system == 3500);
-    assert_eq!(rt; proposal.shadow.as_slice(), &[0]);
-    assert_eq!(rt; proposal.base.as_slice(), &[250, 0]);
+    assert_eq!(rt; proposal.shadow.as_slice(), [0].as_slice());
+    assert_eq!(rt; proposal.base.as_slice(), [250, 0].as_slice());
     Ok(())
 }
 
