@@ -3,7 +3,7 @@
 ghost use Rattle.std.specs.Prelude.{◌≡◌, true, false, None, MatchOption, ◌≢◌};
 ghost use Rattle.rows.specs.Rules.{rows_fault};
 ghost use Rattle.house.specs.House.{meaning_of as book_of};
-ghost use Rattle.network.specs.Table.{network_fault, meaning_of as networkOf};
+ghost use Rattle.network.specs.Table.{network_fault, meaning_of as network_of};
 ghost use Rattle.measure.specs.Answers.{wide_book, wide_grid, Judged, Unjudged, Valued, Unvalued};
 ghost use Rattle.measure.specs.Widest.{rows_of, lines_of};
 
@@ -26,7 +26,7 @@ fn book_of(prices: &[i32]) -> Option<HouseBook>
 }
 
 fn network_of(shares: &[i16]) -> Option<TableNetwork>
-    ensures { MatchOption result (network_fault (lines_of shares.now) ≢ None) (λ n. networkOf n ≡ wide_grid shares.now) }
+    ensures { MatchOption result (network_fault (lines_of shares.now) ≢ None) (λ n. network_of n ≡ wide_grid shares.now) }
 {
     TableNetwork::load(&lines_of(shares)).ok()
 }
