@@ -1,4 +1,4 @@
-//! The proved side: `widest_gap` and `widest_worth` of the archive that `rt staticlib measure` makes.
+//! The proved side: `widest_gap` and `widest_worth` of the archive that `rt lib` makes in `crates/measure`.
 
 use crate::market::{Market, Proposal};
 

@@ -4,7 +4,7 @@ ghost use Rattle.std.specs.Prelude.{◌≡◌, ℕ, Some, None, MatchResult, sli
 ghost use Rattle.fault.specs.First.{or_else};
 ghost use Rattle.rows.specs.Rules.{rows_fault};
 ghost use Rattle.house.specs.House.{meaning_of as book_of};
-ghost use Rattle.network.specs.Table.{network_fault, meaning_of as networkOf};
+ghost use Rattle.network.specs.Table.{network_fault, meaning_of as network_of};
 ghost use Rattle.dispatch.specs.Base.{base_of};
 ghost use Rattle.dispatch.specs.Injected.{participant_flow};
 ghost use Rattle.replay.specs.Base.{base_fault};
@@ -34,7 +34,7 @@ impl Market {
     }
 
     pub(crate) fn lines(&self) -> usize
-        ensures { result ≡ (networkOf self.now.network).lines }
+        ensures { result ≡ (network_of self.now.network).lines }
     {
         self.network.lines()
     }
@@ -48,7 +48,7 @@ impl Market {
 
     // The flow on a line, in thousandths of a tenth.
     pub(crate) fn flow(&self, dispatch: &Dispatch, line: usize) -> i64
-        ensures { result ≡ participant_flow (book_of self.now.book) (networkOf self.now.network) (base_of dispatch.now) line }
+        ensures { result ≡ participant_flow (book_of self.now.book) (network_of self.now.network) (base_of dispatch.now) line }
     {
         flow_of(&self.book, &self.network, dispatch, line)
     }

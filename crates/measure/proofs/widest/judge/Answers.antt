@@ -5,7 +5,7 @@ use Rattle.feasible.specs.Stages.{step_of}
 use Rattle.feasible.specs.declared.stage.Stage.TheVariants.{Second}
 use Rattle.house.specs.House.{meaning_of as book_of}
 use Rattle.market.specs.Quoted.{prices_of}
-use Rattle.network.specs.Table.{meaning_of as networkOf}
+use Rattle.network.specs.Table.{meaning_of as network_of}
 use Rattle.measure.specs.Answers.{wide_step, quoted, based}
 use Rattle.measure.proofs.Moved.{moved}
 use Rattle.measure.proofs.widest.judge.Goals as goal
@@ -21,5 +21,5 @@ returns c =
     let prices : prices_of quote ≡ quoted c.args.system c.args.shadow.now = λ j.
     record { system = (asked.1 ∙ to_z-of_z w32 c.args.system c.ranges.system) j; shadow = λ k. ap pos (asked.2 k) j } in
     let base : base_of dispatch ≡ based c.args.base.now = λ j. λ i. c.in_ok-dispatch.ensures.1 i j in
-    moved _ _ _ _ _ (book_of c.in_ok-book.book) (networkOf c.in_ok-network.network) (step_of c.new-3.result Second) (prices_of quote) (base_of dispatch) c.gap.result
+    moved _ _ _ _ _ (book_of c.in_ok-book.book) (network_of c.in_ok-network.network) (step_of c.new-3.result Second) (prices_of quote) (base_of dispatch) c.gap.result
     c.in_ok-book.ensures c.in_ok-network.ensures step prices base c.gap.ensures
