@@ -1,11 +1,10 @@
 // What a script has said so far: one book, of either kind, and the lines of a network, and then calls and what else is
-// asked of them.
-// The cap of house rows comes before them.
+// asked of them. The cap of house rows comes before them.
 
-ghost use Rattle.std.specs.Prelude.{◌≡◌, true, [], ◌∷◌, ◌++◌, is_some, IfErr, if◌then◌else◌, Some, None, Ok, Err, vec_len, OnOk};
+ghost use Rattle.std.specs.Prelude.{◌≡◌, ◌+◌, min, true, [], ◌∷◌, ◌++◌, is_some, IfErr, if◌then◌else◌, Some, None, Ok, Err, vec_len, OnOk};
 ghost use Rattle.input.specs.Booked.{has_book};
 ghost use Rattle.input.specs.declared.asked.Asked.TheVariants.{Call as Called};
-ghost use Rattle.input.specs.declared.flaw.Flaw.TheVariants.{NoBook, SecondCap, Mixed};
+ghost use Rattle.input.specs.declared.flaw.Flaw.TheVariants.{NotText, NoBook, SecondCap, Mixed};
 ghost use Rattle.input.specs.declared.stop.Stop.TheVariants.{Malformed};
 
 use crate::asked::Asked;
@@ -105,7 +104,9 @@ impl Input {
     }
 
     // The next line holds bytes that are no text.
-    pub fn not_text(&self) -> Stop {
+    pub fn not_text(&self) -> Stop
+        ensures { result ≡ Malformed (min (self.now.read + 1) 18446744073709551615) NotText }
+    {
         Stop::Malformed(self.read.saturating_add(1), Flaw::NotText)
     }
 
