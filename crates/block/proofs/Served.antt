@@ -10,12 +10,12 @@ use Rattle.block.specs.declared.row.BlockRow.{BlockRow}
 use Rattle.block.specs.declared.stack.Stack.{Stack}
 use Rattle.block.proofs.Sound.{at_level}
 
-pub same_book : (stacks : List Stack) (rows : List BlockRow) → ((i : ℕ) → i < length rows → (get_or stacks i nobody).row ≡ get_or rows i blank) → book_of (length rows) (λ i. cond (ltb i (length rows)) (get_or stacks i nobody).row blank) ≡ blocked rows
-same_book stacks rows same =
-    ap (book_of (length rows)) (fun_ext (λ i.
+pub same_book : (n : ℕ) (stacks : List Stack) (rows : List BlockRow) → n ≡ length rows → ((i : ℕ) → i < length rows → (get_or stacks i nobody).row ≡ get_or rows i blank) → book_of n (λ i. cond (ltb i n) (get_or stacks i nobody).row blank) ≡ blocked rows
+same_book n stacks rows count same =
+    rw count (ap (book_of (length rows)) (fun_ext (λ i.
     cond_both (ltb i (length rows)) _ _ (λ r. r ≡ get_or rows i blank)
     (λ t. same i (ltb-true _ _ t))
-    (λ t. sym (get_or_past rows i blank (ltb-false _ _ t)))))
+    (λ t. sym (get_or_past rows i blank (ltb-false _ _ t))))))
 
 within : (bs : List Block) (k : ℕ) → sizes (take k bs) ≤ sizes bs
 unfolding sizes

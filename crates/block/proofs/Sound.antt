@@ -1,10 +1,10 @@
 -- A row that keeps the rules has levels and prices within bounds, and prices that never fall.
-use Rattle.std.proofs.Common.{◌≡◌, ℕ, ◌+◌, ◌<◌, ◌≤◌, true, ◌&&◌, ltb, leb, List, [], ◌∷◌, ℤ, pos, ◌≤ℤ◌, refl, arith}
+use Rattle.std.proofs.Common.{◌≡◌, ℕ, ◌+◌, ◌<◌, ◌≤◌, true, ◌&&◌, ltb, leb, List, [], ◌∷◌, ℤ, pos, ◌≤ℤ◌, ap, not, arith}
 use lib.Signed.{le_z}
 use Rattle.std.proofs.lemmas.Int.{ints}
 use Rattle.std.proofs.lemmas.Bool.{and_parts, and_from, not-false, lt-ltb, le-leb, leb-true, leb-false, ltb-true, ltb-false, cond_both, cond-true}
 use Rattle.book.specs.Meaning.{least_price, most_price}
-use Rattle.block.specs.Blocks.{sizes, price_from, block_price, blocks_of, high_of, price_at, blank}
+use Rattle.block.specs.Blocks.{sizes, price_from, block_price, blocks_of, high_of, price_at}
 use Rattle.block.specs.Rules.{Kept, sized, prices_from}
 use Rattle.block.specs.declared.row.Block.{Block}
 use Rattle.block.specs.declared.row.BlockRow.{BlockRow}
@@ -76,7 +76,12 @@ sound r kept =
       rises = λ p q h. rw (at_level r p h.0 (omega arith), at_level r q (omega arith) h.2) (never_falls least_price most_price (blocks_of r) 0 p q h.1 (omega arith) order);
     }
 
--- no row keeps the rules
-pub blank_kept : Kept blank
+-- a row without blocks keeps the rules
+pub empty_kept : (r : BlockRow) → r.bus ≡ 0 → r.blocks.count ≡ 0 → blocks_of r ≡ [] → Kept r
 unfolding sizes sized prices_from
-blank_kept = elim [ Bus ↦ refl | Count ↦ refl | Sizes ↦ refl | Prices ↦ refl ]
+empty_kept r bus count none = elim [
+  | Bus ↦ ap (λ n. ltb 63 n) bus
+  | Count ↦ ap (λ n. ltb 10 n) count
+  | Sizes ↦ ap (λ bs. not (sized bs && leb (sizes bs) 20000)) none
+  | Prices ↦ ap (λ bs. not (prices_from least_price most_price bs)) none
+]

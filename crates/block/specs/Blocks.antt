@@ -1,11 +1,12 @@
 -- The levels and the prices of a row of blocks.
-use Rattle.std.specs.Prelude.{ℕ, ◌+◌, cond, ◌&&◌, List, [], ◌∷◌, take, ℤ, pos, nat_le, nat_lt}
+use Rattle.std.specs.Prelude.{ℕ, ◌+◌, cond, ◌&&◌, List, [], ◌∷◌, ℤ, pos, nat_le, nat_lt}
+use Rattle.given.specs.Kept.{kept}
 use Rattle.block.specs.declared.row.Block.{Block}
 use Rattle.block.specs.declared.row.BlockRow.{BlockRow}
 
 -- the submitted blocks of a row
 abbrev pub blocks_of : BlockRow → List Block
-blocks_of r = take r.count r.blocks
+blocks_of r = kept r.blocks.count r.blocks.items
 
 -- the sum of the sizes
 unfoldable pub sizes : List Block → ℕ
@@ -34,4 +35,4 @@ no_block = record { size = 0; price = pos 0 }
 
 -- no row: bus 0 and no blocks
 abbrev pub blank : BlockRow
-blank = record { bus = 0; count = 0; blocks = [] }
+blank = record { bus = 0; blocks = record { count = 0; items = [] } }

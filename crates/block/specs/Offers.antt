@@ -60,8 +60,8 @@ nobody = record {
 
 -- the row of a participant, or none
 abbrev pub row_at : BlockBook → ℕ → BlockRow
-row_at b i = cond (nat_lt i b.count) (get_or b.stacks i nobody).row blank
+row_at b i = cond (nat_lt i b.stacks.count) (get_or b.stacks.items i nobody).row blank
 
 -- what a block book means
 abbrev pub offered : BlockBook → Book
-offered b = book_of b.count (row_at b)
+offered b = book_of b.stacks.count (row_at b)

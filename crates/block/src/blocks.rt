@@ -22,12 +22,7 @@ pub fn total(blocks: &[Block]) -> u32
 pub fn all_sized(blocks: &[Block]) -> bool
     ensures { result ≡ sized blocks.now }
 {
-    for block in blocks {
-        if block.size == 0 {
-            return false;
-        }
-    }
-    true
+    blocks.iter().all(|block| block.size > 0)
 }
 
 // Whether the prices stay from `floor` to `top` and never fall.

@@ -1,13 +1,12 @@
 // The block book: a table of at most 64 participants.
 
-ghost use Rattle.std.specs.Prelude.{◌≡◌, ◌≤◌, length};
+ghost use Rattle.std.specs.Prelude.{◌≤◌};
 
 use crate::stack::Stack;
+use given::Given;
 
 #[derive(Clone, Copy)]
 pub struct BlockBook {
-    pub(crate) count: usize,
-    pub(crate) stacks: [Stack; 64],
-    ghost few: { count ≤ 64 },
-    ghost room: { length stacks ≡ 64 },
+    pub(crate) stacks: Given<Stack, 64>,
+    ghost few: { stacks.count ≤ 64 },
 }

@@ -3,20 +3,20 @@
 ghost use Rattle.std.specs.Prelude.{◌≡◌, ◌≤◌, length};
 ghost use Rattle.block.specs.Blocks.{blocks_of};
 
+use given::Given;
+
 // So many tenths at one price in cents.
-#[derive(Clone, Copy)]
+#[derive(Clone, Copy, Debug, Eq, PartialEq)]
 pub struct Block {
     pub size: u16,
     pub price: i32,
 }
 
-// A generator's row. `count` is the number of blocks that were submitted; `blocks` has the first ten
-// of them, and what stands past `count` means nothing.
+// A generator's row. However many blocks were submitted, `blocks` counts them all and has the first ten.
 #[derive(Clone, Copy)]
 pub struct BlockRow {
     pub bus: u8,
-    pub count: usize,
-    pub blocks: [Block; 10],
+    pub blocks: Given<Block, 10>,
 }
 
 impl BlockRow {
@@ -25,10 +25,6 @@ impl BlockRow {
         ensures value { result.now ≡ blocks_of self.now }
         ensures few { length result.now ≤ 10 }
     {
-        if self.count < 10 {
-            &self.blocks[0..self.count]
-        } else {
-            &self.blocks
-        }
+        self.blocks.as_slice()
     }
 }

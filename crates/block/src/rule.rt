@@ -5,7 +5,7 @@ ghost use Rattle.block.specs.Rules.{broken, cause_of, Kept, fault_from, row_coun
 
 use crate::blocks::{all_sized, never_fall, total};
 use crate::row::BlockRow;
-use fault::{Cause, Fault};
+use fault::{Cause, Fault, hold, hold_count};
 
 // What a row by itself can break, in the order in which rows are looked at.
 #[derive(Clone, Copy)]
@@ -16,10 +16,14 @@ pub enum Rule {
     Prices,
 }
 
-impl Rule {
-    fn cause(self) -> Cause
-        ensures { result ≡ cause_of self }
-    {
+impl fault::Rule for Rule {
+    type Row = BlockRow;
+
+    ghost broken = { broken };
+
+    ghost named = { cause_of };
+
+    fn cause(&self) -> Cause {
         match self {
             Rule::Bus => Cause::BusNumber,
             Rule::Count => Cause::PointCount,
@@ -28,43 +32,14 @@ impl Rule {
         }
     }
 
-    fn broken_by(self, row: &BlockRow) -> bool
-        ensures { result ≡ broken self row.now }
-    {
+    fn is_broken_by(&self, row: &BlockRow) -> bool {
         match self {
             Rule::Bus => row.bus > 63,
-            Rule::Count => row.count > 10,
+            Rule::Count => row.blocks.count > 10,
             Rule::Sizes => !all_sized(row.submitted()) || total(row.submitted()) > 20_000,
             Rule::Prices => !never_fall(-25_000, 1_000_000, row.submitted()),
         }
     }
-}
-
-// Every row keeps the rule, or the first row that breaks it.
-fn hold(rule: Rule, rows: &[BlockRow]) -> Result<(), Fault>
-    ensures { MatchResult result (λ _. fault_from rule 0 rows.now ≡ None) (λ f. fault_from rule 0 rows.now ≡ Some f) }
-{
-    for (place, row) in rows.iter().enumerate() {
-        if rule.broken_by(row) {
-            return Err(Fault {
-                cause: rule.cause(),
-                place,
-            });
-        }
-    }
-    Ok(())
-}
-
-fn few(rows: &[BlockRow]) -> Result<(), Fault>
-    ensures { MatchResult result (λ _. row_count_fault rows.now ≡ None) (λ f. row_count_fault rows.now ≡ Some f) }
-{
-    if rows.len() > 64 {
-        return Err(Fault {
-            cause: Cause::RowCount,
-            place: 0,
-        });
-    }
-    Ok(())
 }
 
 // Whether rows keep every rule; else the first fault: by number, and within a number by row.
@@ -73,10 +48,10 @@ pub fn check_rows(rows: &[BlockRow]) -> Result<(), Fault>
     ensures few { OnOk result (length rows.now ≤ 64) }
     ensures kept { OnOk result ((i : ℕ) (d : BlockRow) → i < length rows.now → Kept (slice_index_or rows.now i d)) }
 {
-    few(rows)?;
-    hold(Rule::Bus, rows)?;
-    hold(Rule::Count, rows)?;
-    hold(Rule::Sizes, rows)?;
-    hold(Rule::Prices, rows)?;
+    hold_count(rows, 64, Cause::RowCount)?;
+    hold(&Rule::Bus, rows)?;
+    hold(&Rule::Count, rows)?;
+    hold(&Rule::Sizes, rows)?;
+    hold(&Rule::Prices, rows)?;
     Ok(())
 }

@@ -7,6 +7,7 @@ ghost use Rattle.block.specs.Rules.{Kept};
 use crate::blocks::{block_price, total};
 use crate::row::{Block, BlockRow};
 use crate::stack::Stack;
+use given::Given;
 
 impl Stack {
     // The participant of a row that keeps every rule.
@@ -23,8 +24,7 @@ impl Stack {
         Stack {
             row: BlockRow {
                 bus: 0,
-                count: 0,
-                blocks: [Block { size: 0, price: 0 }; 10],
+                blocks: Given::new(Block { size: 0, price: 0 }),
             },
             high: 0,
         }

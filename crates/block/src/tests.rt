@@ -2,16 +2,19 @@
 
 use super::{Block, BlockBook, BlockRow};
 use book::OfferBook;
+use given::Given;
 use std::test::Fail;
 
 // A row of two blocks.
 fn pair(bus: u8, first: Block, second: Block) -> BlockRow {
     BlockRow {
         bus,
-        count: 2,
-        blocks: [
-            first, second, first, first, first, first, first, first, first, first,
-        ],
+        blocks: Given {
+            count: 2,
+            items: [
+                first, second, first, first, first, first, first, first, first, first,
+            ],
+        },
     }
 }
 

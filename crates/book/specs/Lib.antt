@@ -1,3 +1,4 @@
 pub mod Gathered
 pub mod Meaning
+pub mod Sides
 pub mod Span

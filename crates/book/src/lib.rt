@@ -4,13 +4,16 @@
 
 ghost use Rattle.std.specs.Prelude.{◌≡◌, ℕ, ◌≤◌, ◌≤ℤ◌};
 ghost use Rattle.book.specs.Meaning.{Book, Lawful, least_price, most_price};
+ghost use Rattle.book.specs.Sides.{side_of};
 
+mod side;
 mod span;
 
+pub use side::{Side, is_generator};
 pub use span::price_span;
 
 // An offer book answers questions about its participants, numbered from 0. A participant or a level
-// that is not there has the answer 0.
+// that is not there has the answer 0, or no side.
 pub trait OfferBook {
     ghost meaning: { Self → Book };
 
@@ -22,9 +25,8 @@ pub trait OfferBook {
     fn bus(&self, participant: usize) -> u8
         ensures { result ≡ (meaning self.now).bus participant };
 
-    // 1 for a generator, −1 for a load
-    fn side(&self, participant: usize) -> i8
-        ensures { result ≡ (meaning self.now).side participant };
+    fn side(&self, participant: usize) -> Option<Side>
+        ensures { side_of result ≡ (meaning self.now).side participant };
 
     // the least base point, in tenths
     fn low(&self, participant: usize) -> u16

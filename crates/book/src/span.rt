@@ -4,6 +4,7 @@ ghost use Rattle.std.specs.Prelude.{◌≡◌};
 ghost use Rattle.book.specs.Span.{span_of, Within};
 
 use crate::OfferBook;
+use crate::side::is_generator;
 
 // None where the participant has no level.
 pub fn price_span<B: OfferBook>(book: &B, participant: usize) -> Option<(i32, i32)>
@@ -17,7 +18,7 @@ pub fn price_span<B: OfferBook>(book: &B, participant: usize) -> Option<(i32, i3
     }
     let first = book.price(participant, low + 1);
     let last = book.price(participant, high);
-    if book.side(participant) > 0 {
+    if is_generator(book.side(participant)) {
         Some((first, last))
     } else {
         Some((last, first))

@@ -2,8 +2,9 @@
 
 use crate::sample::{book_of, row};
 use book::OfferBook;
+use given::Given;
 use house::HouseBook;
-use rows::Row;
+use rows::{Point, Row};
 use std::test::Fail;
 
 fn generator() -> Row {
@@ -15,7 +16,7 @@ fn book() -> Result<HouseBook, Fail> {
     let scheduled = Row {
         bus: 63,
         reading: 200,
-        count: 0,
+        points: Given::new(Point { level: 0, price: 0 }),
         ..generator()
     };
     book_of(&[generator(), load, scheduled])
@@ -33,7 +34,7 @@ fn participants(rt: HostRuntime) -> Result<(), Fail> {
         (64, 0, 0, 0, 0, 0),
     ] {
         assert_eq!(rt; book.bus(participant), bus);
-        assert_eq!(rt; book.side(participant), side);
+        assert_eq!(rt; book.side(participant).map_or(0, |side| side.sign()), side);
         assert_eq!(rt; book.low(participant), low);
         assert_eq!(rt; book.high(participant), high);
         assert_eq!(rt; book.reading(participant), reading);

@@ -1,20 +1,21 @@
 // Rows with two points, and books of them.
 
+use given::Given;
 use house::HouseBook;
 use rows::{Point, Row};
 use std::test::Fail;
 
 // A row with the limits LSL, LDL, HDL and HSL, and these prices at LSL and HSL.
 pub(crate) fn row(letter: char, bus: u8, limits: [u16; 4], reading: u16, prices: [i32; 2]) -> Row {
-    let mut points = [Point { level: 0, price: 0 }; 10];
-    points[0] = Point {
+    let mut points = Given::new(Point { level: 0, price: 0 });
+    points.push(Point {
         level: limits[0],
         price: prices[0],
-    };
-    points[1] = Point {
+    });
+    points.push(Point {
         level: limits[3],
         price: prices[1],
-    };
+    });
     Row {
         letter,
         bus,
@@ -23,7 +24,6 @@ pub(crate) fn row(letter: char, bus: u8, limits: [u16; 4], reading: u16, prices:
         hdl: limits[2],
         hsl: limits[3],
         reading,
-        count: 2,
         points,
     }
 }

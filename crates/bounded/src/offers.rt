@@ -7,13 +7,15 @@ ghost use Rattle.bounded.specs.Tabled.{layer_of};
 ghost use Rattle.std.proofs.Common.{rules};
 
 use crate::bounded::Bounded;
-use book::OfferBook;
+use book::{OfferBook, Side, is_generator};
 
 // Whether the participant is a generator that has a price at this level.
 fn bites<B: OfferBook>(book: &B, participant: usize, level: u16) -> bool
     ensures { result ≡ bites (B.OfferBook.meaning book.now) participant level }
 {
-    book.side(participant) > 0 && book.low(participant) < level && level <= book.high(participant)
+    is_generator(book.side(participant))
+        && book.low(participant) < level
+        && level <= book.high(participant)
 }
 
 impl<B: OfferBook> OfferBook for Bounded<B> {
@@ -43,7 +45,7 @@ impl<B: OfferBook> OfferBook for Bounded<B> {
         self.book.bus(participant)
     }
 
-    fn side(&self, participant: usize) -> i8 {
+    fn side(&self, participant: usize) -> Option<Side> {
         self.book.side(participant)
     }
 

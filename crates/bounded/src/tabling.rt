@@ -14,12 +14,12 @@ impl Table {
     {
         Table {
             terms: [Term::fresh(); 64],
-            references: [0; 64],
-            referenced: false,
+            references: None,
         }
     }
 
-    // Another term for one participant; of a participant past the sixty-fourth nothing is kept.
+    // Another term for one participant; of a participant past the sixty-fourth nothing is kept. By `get_mut` the proof
+    // was tried, and did not close.
     pub fn set_term(&mut self, participant: usize, term: Term)
         ensures { layer_of self.new ≡ with_term (layer_of self.old) participant (terms_of term) }
     {
@@ -32,25 +32,23 @@ impl Table {
     pub fn refer(&mut self, references: [i32; 64])
         ensures { layer_of self.new ≡ with_references (layer_of self.old) references }
     {
-        self.references = references;
-        self.referenced = true;
+        self.references = Some(references);
     }
 
     // No first step, and so no reference prices.
     pub fn clear(&mut self)
         ensures { layer_of self.new ≡ without_references (layer_of self.old) }
     {
-        self.referenced = false;
+        self.references = None;
     }
 
     pub(crate) fn apply(&self, participant: usize, price: i32) -> i32
         requires { participant < 64 }
         ensures { result ≡ applied (layer_of self.now) participant price }
     {
-        if self.referenced {
-            self.terms[participant].mitigate(self.references[participant], price)
-        } else {
-            price
+        match &self.references {
+            Some(references) => self.terms[participant].mitigate(references[participant], price),
+            None => price,
         }
     }
 }

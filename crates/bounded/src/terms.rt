@@ -1,7 +1,7 @@
 // Terms are made within their ranges, and bound a price.
 
 ghost use Rattle.std.specs.Prelude.{◌≡◌, true, false, pos, ◌≤ℤ◌, MatchOption};
-ghost use Rattle.bounded.specs.Mitigation.{in_range, floor_of, ceiling_of, mitigated, lowered, raised};
+ghost use Rattle.bounded.specs.Mitigation.{in_range, floor_of, ceiling_of, mitigated, lowered};
 ghost use Rattle.bounded.specs.Tabled.{terms_of, fresh_term};
 
 use crate::term::Term;
@@ -23,10 +23,10 @@ impl Term {
     pub fn new(floor: i32, ceiling: i32, adder: u32, subject: bool) -> Option<Term>
         ensures { MatchOption result (in_range floor ceiling adder ≡ false) (λ t. (in_range floor ceiling adder ≡ true) × (terms_of t ≡ record { floor = floor; ceiling = ceiling; adder = adder; subject = subject })) }
     {
-        if floor < -25_000 || floor > 1_000_000 || ceiling < 0 || ceiling > 1_000_000 {
+        if !(-25_000..=1_000_000).contains(&floor) || !(0..=1_000_000).contains(&ceiling) {
             return None;
         }
-        if adder > ceiling as u32 / 100 {
+        if adder > ceiling.unsigned_abs() / 100 {
             return None;
         }
         Some(Term {
@@ -49,33 +49,25 @@ impl Term {
         ensures value { result ≡ ceiling_of (terms_of self.now) reference }
         ensures positive { pos 0 ≤ℤ result }
     {
-        (reference as i64 + self.adder as i64).max(self.ceiling as i64)
+        (i64::from(reference) + i64::from(self.adder)).max(i64::from(self.ceiling))
     }
 
     // The price as mitigation bounds it, for a generator with this reference price.
     pub fn mitigate(&self, reference: i32, price: i32) -> i32
         ensures { result ≡ mitigated (terms_of self.now) reference price }
     {
-        raise(
-            self.least(reference),
-            self.lower(self.most(reference), price),
-        )
+        self.lower(self.most(reference), price)
+            .max(self.least(reference))
     }
 
     fn lower(&self, most: i64, price: i32) -> i32
         requires { pos 0 ≤ℤ most }
         ensures { result ≡ lowered self.now.subject most price }
     {
-        if self.subject && most < price as i64 {
-            most as i32
+        if self.subject {
+            most.min(i64::from(price)) as i32
         } else {
             price
         }
     }
-}
-
-fn raise(least: i32, price: i32) -> i32
-    ensures { result ≡ raised least price }
-{
-    if price < least { least } else { price }
 }

@@ -1,10 +1,10 @@
--- The numbers that a table holds of those that were given.
-use Rattle.std.specs.Prelude.{ℕ, List, take}
-use Rattle.calls.specs.declared.given.BasePoints.{BasePoints}
-use Rattle.calls.specs.declared.given.ShadowPrices.{ShadowPrices}
+-- The numbers that a proposal's tables have of those that were given.
+use Rattle.std.specs.Prelude.{ℕ, List}
+use Rattle.given.specs.Kept.{kept}
+use Rattle.given.specs.declared.given.Given.{Given}
 
-abbrev pub prices_in : ShadowPrices → List ℕ
-prices_in t = take t.count t.prices
+abbrev pub prices_in : Given ℕ 32 → List ℕ
+prices_in t = kept t.count t.items
 
-abbrev pub points_in : BasePoints → List ℕ
-points_in t = take t.count t.points
+abbrev pub points_in : Given ℕ 64 → List ℕ
+points_in t = kept t.count t.items

@@ -1,6 +1,6 @@
 // What can be asked of a run.
 
-use crate::given::{BasePoints, ShadowPrices};
+use crate::lists::{BasePoints, ShadowPrices};
 
 // How much all units have to serve, in tenths, and the greatest gap that is accepted, in millionths of a dollar per hour.
 #[derive(Clone, Copy)]
@@ -31,6 +31,7 @@ pub struct ParticipantTerm {
 // each line.
 #[derive(Clone, Copy)]
 pub struct Proposal {
+    // as it was given, and so no `Stage` yet: another number than 1 and 2 has to be declined by its rule
     pub step: u8,
     pub system: i32,
     pub shadow: ShadowPrices,

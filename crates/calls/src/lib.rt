@@ -2,9 +2,7 @@
 #![tactic(auto)]
 
 mod call;
-mod given;
-mod points;
-mod prices;
+mod lists;
 
 pub use call::{Call, LineLimit, ParticipantTerm, Proposal, Requirement};
-pub use given::{BasePoints, ShadowPrices};
+pub use lists::{BasePoints, ShadowPrices};

@@ -9,7 +9,7 @@ use Rattle.network.specs.Grid.{Grid}
 use Rattle.market.specs.Laws.{Fair}
 use Rattle.market.specs.Market.{Step}
 use Rattle.checks.specs.Causes.{unobserved, unobserved_fault}
-use Rattle.checks.specs.First.{first_place}
+use Rattle.feasible.specs.First.{first_place}
 use Rattle.checks.specs.Proposed.{quoted}
 use Rattle.checks.proofs.First.{nowhere_first, placed_nowhere}
 use Rattle.checks.proofs.Signs.{not_above}

@@ -1,20 +1,20 @@
 -- No fault of a dispatch means that it is feasible.
-use Rattle.std.proofs.Common.{◌≡◌, ℕ, false, ltb, None, ap, ◌∙◌, ⊎_elim}
-use lib.Signed.{lt_z}
-use Rattle.std.proofs.lemmas.Bool.{cases_Bool, both_ways, and_left, and_right, and_cases, or_parts, or_from, ltb-false, le-ltb, cond-true}
+use Rattle.std.proofs.Common.{◌≡◌, ℕ, false, ltb, None, refl, ap, ◌∙◌, ⊎_elim}
+use Rattle.std.proofs.lemmas.Bool.{cases_Bool, or_parts, or_from, ltb-false, le-ltb, cond-true}
 use Rattle.fault.specs.First.{or_else}
 use Rattle.fault.specs.declared.cause.Cause.TheVariants.{BasePoint, Balance, FlowLimit}
 use Rattle.fault.proofs.First.{none_both}
 use Rattle.book.specs.Meaning.{Book}
 use Rattle.network.specs.Grid.{Grid}
-use Rattle.dispatch.specs.Injected.{dispatch_flow}
-use Rattle.market.specs.Market.{Step, Feasible, balance, due, room}
+use Rattle.dispatch.specs.Injected.{injected}
+use Rattle.market.specs.Market.{Step, Feasible, balance, due}
 use Rattle.feasible.specs.Checks.{Within, Carried}
 use Rattle.feasible.specs.Places.{Everywhere}
+use Rattle.feasible.proofs.Flows.{over_fails, over_carried}
 use Rattle.checks.specs.Causes.{outside, overloaded, same, limit_fault, balance_fault, flow_fault, network_fault, dispatch_fault}
-use Rattle.checks.specs.First.{first_place, placed}
+use Rattle.feasible.specs.First.{first_place, placed}
 use Rattle.checks.proofs.First.{failing_nowhere, nowhere_failing, placed_nowhere, unless_never}
-use Rattle.checks.proofs.Signs.{above_not, not_above, same_is, is_same}
+use Rattle.checks.proofs.Signs.{same_is, is_same}
 
 module _ (m : Book) (x : ℕ → ℕ) (i : ℕ) where
   pub within_inside : Within m x i → outside m x i ≡ false
@@ -25,18 +25,10 @@ module _ (m : Book) (x : ℕ → ℕ) (i : ℕ) where
 
 module _ (m : Book) (g : Grid) (s : Step) (x : ℕ → ℕ) (k : ℕ) where
   pub carried_light : Carried m g s x k → overloaded m g s x k ≡ false
-  carried_light h =
-      ⊎_elim
-      (λ seen. and_right _ _ (above_not (dispatch_flow m g x k) (room s k) (h seen)))
-      (λ hidden. and_left _ _ hidden)
-      (cases_Bool (s.observed k))
+  carried_light h = ⊎_elim (λ heavy. absurd (over_fails m g x (injected m x) (λ b. refl) k s heavy h)) (λ light. light) (cases_Bool (overloaded m g s x k))
 
   pub light_carried : overloaded m g s x k ≡ false → Carried m g s x k
-  light_carried e seen =
-      ⊎_elim
-      (λ hidden. absurd (both_ways _ hidden seen))
-      (λ light. not_above (dispatch_flow m g x k) (room s k) light)
-      (and_cases (s.observed k) (lt_z (room s k) (dispatch_flow m g x k)) e)
+  light_carried = over_carried m g x (injected m x) (λ b. refl) k s
 
 pub all_within : (m : Book) (x : ℕ → ℕ) → limit_fault m x ≡ None → Everywhere m.count (Within m x)
 all_within m x e =

@@ -1,19 +1,12 @@
 -- The first place at which a test is true: found, or nowhere.
-use Rattle.std.proofs.Common.{◌≡◌, ℕ, zero, suc, ◌+◌, ◌<◌, Bool, true, false, cond, Some, None, Option, refl, ap, ◌∙◌, subst, ⊎_elim, add-one, arith}
+use Rattle.std.proofs.Common.{◌≡◌, ℕ, zero, suc, ◌<◌, ◌≤◌, Bool, true, false, cond, List, length, get_or, Some, None, Option, MatchOption, refl, sym, ap, ◌∙◌, subst, ⊎_elim, arith}
+use Rattle.std.specs.List.{AllWithin, HoldsAt}
 use Rattle.std.proofs.lemmas.Bool.{cases_eq, cases_Bool, cond-true, cond-false}
 use Rattle.fault.specs.First.{or_else}
 use Rattle.fault.specs.declared.cause.Cause.{Cause}
 use Rattle.fault.proofs.First.{none_both, unbroken}
 use Rattle.feasible.specs.Places.{Everywhere, FirstFailing}
-use Rattle.checks.specs.First.{first_place, placed, unless}
-
-pub first_none : (test : ℕ → Bool) → first_place test 0 ≡ None
-unfolding first_place
-first_none test = refl
-
-pub first_more : (test : ℕ → Bool) (n : ℕ) → first_place test n ≡ None → test n ≡ false → first_place test (n + 1) ≡ None
-unfolding first_place
-first_more test n none f = rw add-one (ap (λ o. or_else o (cond (test n) (Some n) None)) none ∙ cond-false (test n) (Some n) None f)
+use Rattle.feasible.specs.First.{first_place, placed, unless}
 
 pub first_found : (test : ℕ → Bool) (i n : ℕ) → first_place test i ≡ None → test i ≡ true → i < n → first_place test n ≡ Some i
 unfolding first_place
@@ -41,6 +34,21 @@ nowhere_first test (suc n) e i l =
     (λ s. ap test s ∙ (unbroken (test n) n None both.1).0)
     (λ ne. nowhere_first test n both.0 i (omega arith))
     (cases_eq i n)
+
+-- what a search in order finds is the first place
+first_is : (test : ℕ → Bool) (n : ℕ) (r : Option ℕ) → MatchOption r ((k : ℕ) → k < n → test k ≡ false) (λ i. (i < n) × (test i ≡ true) × ((k : ℕ) → k < i → test k ≡ false)) → r ≡ first_place test n
+first_is test n None h = sym (first_nowhere test n h)
+first_is test n (Some i) h = sym (first_found test i n (first_nowhere test i h.2) h.1 h.0)
+
+-- over a range
+pub first_in_range : (test : ℕ → Bool) (n : ℕ) (r : Option ℕ) → MatchOption r ((k : ℕ) → 0 ≤ k → k < n → test k ≡ false) (λ i. (0 ≤ i) × (i < n) × (test i ≡ true) × ((k : ℕ) → 0 ≤ k → k < i → test k ≡ false)) → r ≡ first_place test n
+first_in_range test n None h = first_is test n None (λ k l. h k (omega arith) l)
+first_in_range test n (Some i) h = first_is test n (Some i) (h.1, h.2, λ k l. h.3 k (omega arith) l)
+
+-- over a list of numbers
+pub first_in_list : (test : ℕ → Bool) (xs : List ℕ) (r : Option ℕ) → MatchOption r (AllWithin (λ x. test x ≡ false) xs 0 (length xs)) (λ i. (i < length xs) × HoldsAt (λ x. test x ≡ true) xs i × AllWithin (λ x. test x ≡ false) xs 0 i) → r ≡ first_place (λ k. test (get_or xs k 0)) (length xs)
+first_in_list test xs None h = first_is (λ k. test (get_or xs k 0)) (length xs) None (λ k l. h k 0 (omega arith) l)
+first_in_list test xs (Some i) h = first_is (λ k. test (get_or xs k 0)) (length xs) (Some i) (h.0, h.1 0, λ k l. h.2 k 0 (omega arith) l)
 
 -- a check over places whose test is true where it fails
 module _ (n : ℕ) (holds : ℕ → Type 0) (test : ℕ → Bool) (good : (i : ℕ) → holds i → test i ≡ false) (bad : (i : ℕ) → test i ≡ false → holds i) where

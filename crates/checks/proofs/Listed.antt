@@ -1,32 +1,30 @@
 -- Lists of which each number is small enough.
-use Rattle.std.proofs.Common.{◌≡◌, ℕ, suc, ◌<◌, ◌≤◌, true, false, ltb, List, [], ◌∷◌, length, get_or, ℤ, pos, negsuc, None, refl, arith}
+use Rattle.std.proofs.Common.{◌≡◌, ℕ, suc, ◌<◌, ◌≤◌, true, false, leb, ltb, List, [], ◌∷◌, length, get_or, ℤ, pos, negsuc, None, refl, arith}
 use lib.Signed.{lt_z}
+use Rattle.std.specs.List.{list_all}
 use Rattle.std.proofs.lemmas.Bool.{and_from, le-leb, ltb-false, or_parts}
 use Rattle.book.specs.Meaning.{Book}
 use Rattle.dispatch.specs.Base.{reachable}
 use Rattle.market.specs.Quoted.{payable, quotable}
 use Rattle.checks.specs.Causes.{dear, outside}
-use Rattle.checks.specs.First.{first_place}
+use Rattle.feasible.specs.First.{first_place}
 use Rattle.checks.specs.Pointed.{pointed}
 use Rattle.checks.proofs.First.{nowhere_first}
 use Rattle.checks.proofs.Signs.{at_most, not_above}
 
-all_payable : (us : List ℕ) → ((k : ℕ) → k < length us → get_or us k 0 ≤ 1000000) → payable us ≡ true
-unfolding payable
-all_payable [] h = refl
-all_payable (u ∷ us) h = and_from _ _ (le-leb u 1000000 (h 0 (omega arith))) (all_payable us (λ k l. h (suc k) (omega arith)))
+-- numbers that are each at most a bound pass a test of all
+all_at_most : (most : ℕ) (xs : List ℕ) → ((k : ℕ) → k < length xs → get_or xs k 0 ≤ most) → list_all (λ x. leb x most) xs ≡ true
+all_at_most most [] h = refl
+all_at_most most (x ∷ xs) h = and_from _ _ (le-leb x most (h 0 (omega arith))) (all_at_most most xs (λ k l. h (suc k) (omega arith)))
 
 none_dear : (us : List ℕ) → first_place (dear us) (length us) ≡ None → payable us ≡ true
-none_dear us none = all_payable us (λ k l. ltb-false 1000000 (get_or us k 0) (nowhere_first (dear us) (length us) none k l))
-
-all_reachable : (xs : List ℕ) → ((k : ℕ) → k < length xs → get_or xs k 0 ≤ 20000) → reachable xs ≡ true
-unfolding reachable
-all_reachable [] h = refl
-all_reachable (x ∷ xs) h = and_from _ _ (le-leb x 20000 (h 0 (omega arith))) (all_reachable xs (λ k l. h (suc k) (omega arith)))
+unfolding payable
+none_dear us none = all_at_most 1000000 us (λ k l. ltb-false 1000000 (get_or us k 0) (nowhere_first (dear us) (length us) none k l))
 
 pub none_outside : (m : Book) (xs : List ℕ) → ((i : ℕ) → m.high i ≤ 20000) → first_place (outside m (pointed xs)) (length xs) ≡ None → reachable xs ≡ true
+unfolding reachable
 none_outside m xs highest none =
-    all_reachable xs (λ k l.
+    all_at_most 20000 xs (λ k l.
     let within = or_parts (ltb (get_or xs k 0) (m.low k)) (ltb (m.high k) (get_or xs k 0)) (nowhere_first (outside m (pointed xs)) (length xs) none k l) in
     let above = ltb-false (m.high k) (get_or xs k 0) within.1 in
     let top = highest k in

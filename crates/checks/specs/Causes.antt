@@ -5,12 +5,13 @@ use Rattle.fault.specs.declared.cause.Cause.TheVariants.{ListLength, PriceRange,
 use Rattle.fault.specs.declared.cause.Fault.{Fault}
 use Rattle.calls.specs.Given.{prices_in, points_in}
 use Rattle.calls.specs.declared.call.Proposal.{Proposal}
-use Rattle.calls.specs.declared.given.BasePoints.{BasePoints}
+use Rattle.given.specs.declared.given.Given.{Given}
 use Rattle.book.specs.Meaning.{Book}
 use Rattle.network.specs.Grid.{Grid}
-use Rattle.dispatch.specs.Injected.{dispatch_flow}
-use Rattle.market.specs.Market.{Step, Prices, balance, due, room, gap}
-use Rattle.checks.specs.First.{first_place, placed, unless}
+use Rattle.dispatch.specs.Injected.{injected}
+use Rattle.market.specs.Market.{Step, Prices, balance, due, gap}
+use Rattle.feasible.specs.Checks.{over}
+use Rattle.feasible.specs.First.{first_place, placed, unless}
 use Rattle.checks.specs.Pointed.{pointed}
 use Rattle.checks.specs.Proposed.{quoted, dispatched}
 
@@ -45,7 +46,7 @@ abbrev pub limit_fault : Book → (ℕ → ℕ) → Option Fault
 limit_fault m x = placed BasePoint (first_place (outside m x) m.count)
 
 -- base points alone: one for each participant, within its limits
-abbrev pub base_fault : Book → BasePoints → Option Fault
+abbrev pub base_fault : Book → Given ℕ 64 → Option Fault
 base_fault m t = or_else (unless (t.count == m.count) ListLength 0) (limit_fault m (pointed (points_in t)))
 
 abbrev pub same : ℤ → ℤ → Bool
@@ -56,7 +57,7 @@ balance_fault m s x = unless (same (balance m x) (due m s)) Balance 0
 
 -- an observed line whose flow is over 1,000 times its limit
 abbrev pub overloaded : Book → Grid → Step → (ℕ → ℕ) → ℕ → Bool
-overloaded m g s x k = s.observed k && int_lt (room s k) (dispatch_flow m g x k)
+overloaded m g s x = over g s (injected m x)
 
 abbrev pub flow_fault : Book → Grid → Step → (ℕ → ℕ) → Option Fault
 flow_fault m g s x = placed FlowLimit (first_place (overloaded m g s x) g.lines)

@@ -1,4 +1,3 @@
-pub mod First
 pub mod Pointed
 pub mod Proposed
 pub mod Causes

@@ -2,7 +2,7 @@
 
 ghost use Rattle.std.specs.Prelude.{◌≡◌, Some, None, MatchResult};
 ghost use Rattle.market.specs.Quoted.{prices_of};
-ghost use Rattle.feasible.specs.Stages.{step_of};
+ghost use Rattle.feasible.specs.Stages.{held_to};
 ghost use Rattle.checks.specs.Causes.{form_fault};
 ghost use Rattle.checks.specs.Proposed.{quoted};
 
@@ -12,7 +12,7 @@ use crate::quoting::quote_of;
 use book::OfferBook;
 use calls::Proposal;
 use fault::{Cause, Fault};
-use feasible::{Constraints, Stage};
+use feasible::Step;
 use market::Quote;
 use network::Network;
 
@@ -20,19 +20,15 @@ use network::Network;
 pub(crate) fn form_of<B: OfferBook, N: Network>(
     book: &B,
     network: &N,
-    constraints: &Constraints,
-    stage: Stage,
+    step: &Step,
     proposal: &Proposal,
 ) -> Result<Quote, Fault>
-    ensures { MatchResult result (λ q. (form_fault (B.OfferBook.meaning book.now) (N.Network.meaning network.now) (step_of constraints.now stage) proposal.now ≡ None) × (prices_of q ≡ quoted proposal.now)) (λ f. form_fault (B.OfferBook.meaning book.now) (N.Network.meaning network.now) (step_of constraints.now stage) proposal.now ≡ Some f) }
+    ensures { MatchResult result (λ q. (form_fault (B.OfferBook.meaning book.now) (N.Network.meaning network.now) (held_to step.now) proposal.now ≡ None) × (prices_of q ≡ quoted proposal.now)) (λ f. form_fault (B.OfferBook.meaning book.now) (N.Network.meaning network.now) (held_to step.now) proposal.now ≡ Some f) }
 {
     check_counts(book, network, proposal)?;
     let quote = quote_of(proposal)?;
-    match first_unobserved(network, constraints, stage, &quote) {
-        Some(place) => Err(Fault {
-            cause: Cause::UnobservedPrice,
-            place,
-        }),
+    match first_unobserved(network, step, &quote) {
+        Some(place) => Err(Fault::new(Cause::UnobservedPrice, place)),
         None => Ok(quote),
     }
 }

@@ -1,7 +1,7 @@
 // A proposal is examined, and then judged by its gap.
 
 ghost use Rattle.std.specs.Prelude.{◌≡◌, pos, Some, None, MatchResult, int_le};
-ghost use Rattle.feasible.specs.Stages.{step_of};
+ghost use Rattle.feasible.specs.Stages.{held_to};
 ghost use Rattle.checks.specs.Causes.{examined_fault, judged_fault};
 ghost use Rattle.checks.specs.Proposed.{held_of, weighed};
 
@@ -11,7 +11,7 @@ use crate::placing::feasible_of;
 use book::OfferBook;
 use calls::Proposal;
 use fault::{Cause, Fault};
-use feasible::{Constraints, Stage};
+use feasible::Step;
 use gap::gap;
 use network::Network;
 
@@ -19,15 +19,14 @@ use network::Network;
 pub fn examine<B: OfferBook, N: Network>(
     book: &B,
     network: &N,
-    constraints: &Constraints,
-    stage: Stage,
+    step: &Step,
     proposal: &Proposal,
 ) -> Result<Held, Fault>
-    ensures { MatchResult result (λ h. (examined_fault (B.OfferBook.meaning book.now) (N.Network.meaning network.now) (step_of constraints.now stage) proposal.now ≡ None) × (held_of h ≡ weighed (B.OfferBook.meaning book.now) (N.Network.meaning network.now) (step_of constraints.now stage) proposal.now)) (λ f. examined_fault (B.OfferBook.meaning book.now) (N.Network.meaning network.now) (step_of constraints.now stage) proposal.now ≡ Some f) }
+    ensures { MatchResult result (λ h. (examined_fault (B.OfferBook.meaning book.now) (N.Network.meaning network.now) (held_to step.now) proposal.now ≡ None) × (held_of h ≡ weighed (B.OfferBook.meaning book.now) (N.Network.meaning network.now) (held_to step.now) proposal.now)) (λ f. examined_fault (B.OfferBook.meaning book.now) (N.Network.meaning network.now) (held_to step.now) proposal.now ≡ Some f) }
 {
-    let quote = form_of(book, network, constraints, stage, proposal)?;
-    let dispatch = feasible_of(book, network, constraints, stage, proposal.base.as_slice())?;
-    match gap(book, network, constraints, stage, &quote, &dispatch) {
+    let quote = form_of(book, network, step, proposal)?;
+    let dispatch = feasible_of(book, network, step, proposal.base.as_slice())?;
+    match gap(book, network, step, &quote, &dispatch) {
         Some(gap) => Ok(Held {
             quote,
             dispatch,
@@ -47,20 +46,16 @@ fn within(gap: i64, tolerance: u64) -> bool
 pub fn judge<B: OfferBook, N: Network>(
     book: &B,
     network: &N,
-    constraints: &Constraints,
+    step: &Step,
     tolerance: u64,
-    stage: Stage,
     proposal: &Proposal,
 ) -> Result<Held, Fault>
-    ensures { MatchResult result (λ h. (judged_fault (B.OfferBook.meaning book.now) (N.Network.meaning network.now) (step_of constraints.now stage) tolerance proposal.now ≡ None) × (held_of h ≡ weighed (B.OfferBook.meaning book.now) (N.Network.meaning network.now) (step_of constraints.now stage) proposal.now)) (λ f. judged_fault (B.OfferBook.meaning book.now) (N.Network.meaning network.now) (step_of constraints.now stage) tolerance proposal.now ≡ Some f) }
+    ensures { MatchResult result (λ h. (judged_fault (B.OfferBook.meaning book.now) (N.Network.meaning network.now) (held_to step.now) tolerance proposal.now ≡ None) × (held_of h ≡ weighed (B.OfferBook.meaning book.now) (N.Network.meaning network.now) (held_to step.now) proposal.now)) (λ f. judged_fault (B.OfferBook.meaning book.now) (N.Network.meaning network.now) (held_to step.now) tolerance proposal.now ≡ Some f) }
 {
-    let held = examine(book, network, constraints, stage, proposal)?;
+    let held = examine(book, network, step, proposal)?;
     if within(held.gap, tolerance) {
         Ok(held)
     } else {
-        Err(Fault {
-            cause: Cause::GapTolerance,
-            place: 0,
-        })
+        Err(Fault::new(Cause::GapTolerance, 0))
     }
 }

@@ -3,8 +3,8 @@
 ghost use Rattle.std.specs.Prelude.{◌≡◌, length, Some, None, MatchResult};
 ghost use Rattle.calls.specs.Given.{points_in};
 ghost use Rattle.dispatch.specs.Base.{base_of};
-ghost use Rattle.checks.specs.Causes.{base_fault, beyond, limit_fault, outside};
-ghost use Rattle.checks.specs.First.{first_place};
+ghost use Rattle.checks.specs.Causes.{base_fault, limit_fault, outside};
+ghost use Rattle.feasible.specs.First.{first_place};
 ghost use Rattle.checks.specs.Pointed.{pointed};
 
 use book::OfferBook;
@@ -12,9 +12,10 @@ use calls::BasePoints;
 use dispatch::Dispatch;
 use fault::{Cause, Fault};
 
-fn is_beyond<B: OfferBook>(book: &B, participant: usize, point: u16) -> bool
-    ensures { result ≡ beyond (B.OfferBook.meaning book.now) participant point }
+fn is_outside<B: OfferBook>(book: &B, points: &[u16], participant: usize) -> bool
+    ensures { result ≡ outside (B.OfferBook.meaning book.now) (pointed points.now) participant }
 {
+    let point = points.get(participant).copied().unwrap_or(0);
     point < book.low(participant) || point > book.high(participant)
 }
 
@@ -22,12 +23,7 @@ fn is_beyond<B: OfferBook>(book: &B, participant: usize, point: u16) -> bool
 fn first_outside<B: OfferBook>(book: &B, points: &[u16]) -> Option<usize>
     ensures { result ≡ first_place (outside (B.OfferBook.meaning book.now) (pointed points.now)) (length points.now) }
 {
-    for (participant, point) in points.iter().enumerate() {
-        if is_beyond(book, participant, *point) {
-            return Some(participant);
-        }
-    }
-    None
+    (0..points.len()).find(|participant| is_outside(book, points, *participant))
 }
 
 // The dispatch of base points within limits, or the first that is outside.
@@ -36,10 +32,7 @@ pub(crate) fn dispatch_of<B: OfferBook>(book: &B, points: &[u16]) -> Result<Disp
     ensures { MatchResult result (λ d. (limit_fault (B.OfferBook.meaning book.now) (pointed points.now) ≡ None) × (base_of d ≡ pointed points.now)) (λ f. limit_fault (B.OfferBook.meaning book.now) (pointed points.now) ≡ Some f) }
 {
     if let Some(place) = first_outside(book, points) {
-        return Err(Fault {
-            cause: Cause::BasePoint,
-            place,
-        });
+        return Err(Fault::new(Cause::BasePoint, place));
     }
     match Dispatch::new(points) {
         Some(dispatch) => Ok(dispatch),
@@ -52,10 +45,7 @@ pub fn dispatch_at<B: OfferBook>(book: &B, base: &BasePoints) -> Result<Dispatch
     ensures { MatchResult result (λ d. (base_fault (B.OfferBook.meaning book.now) base.now ≡ None) × (base_of d ≡ pointed (points_in base.now))) (λ f. base_fault (B.OfferBook.meaning book.now) base.now ≡ Some f) }
 {
     if base.count != book.count() {
-        return Err(Fault {
-            cause: Cause::ListLength,
-            place: 0,
-        });
+        return Err(Fault::new(Cause::ListLength, 0));
     }
     dispatch_of(book, base.as_slice())
 }

@@ -18,9 +18,6 @@ pub(crate) fn check_counts<B: OfferBook, N: Network>(
     if proposal.shadow.count == network.lines() && proposal.base.count == book.count() {
         Ok(())
     } else {
-        Err(Fault {
-            cause: Cause::ListLength,
-            place: 0,
-        })
+        Err(Fault::new(Cause::ListLength, 0))
     }
 }

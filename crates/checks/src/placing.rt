@@ -2,7 +2,7 @@
 
 ghost use Rattle.std.specs.Prelude.{◌≡◌, length, Some, None, MatchResult};
 ghost use Rattle.dispatch.specs.Base.{base_of};
-ghost use Rattle.feasible.specs.Stages.{step_of};
+ghost use Rattle.feasible.specs.Stages.{held_to};
 ghost use Rattle.checks.specs.Causes.{dispatch_fault, network_fault};
 ghost use Rattle.checks.specs.Pointed.{pointed};
 
@@ -10,30 +10,23 @@ use crate::limiting::dispatch_of;
 use book::OfferBook;
 use dispatch::Dispatch;
 use fault::{Cause, Fault};
-use feasible::{Constraints, Stage, balanced, first_overloaded};
+use feasible::{Step, balanced, first_overloaded};
 use network::Network;
 
 // The balance is met, and no observed line carries more than its limit.
 fn check_network<B: OfferBook, N: Network>(
     book: &B,
     network: &N,
-    constraints: &Constraints,
-    stage: Stage,
+    step: &Step,
     dispatch: &Dispatch,
 ) -> Result<(), Fault>
-    ensures { MatchResult result (λ _. network_fault (B.OfferBook.meaning book.now) (N.Network.meaning network.now) (step_of constraints.now stage) (base_of dispatch.now) ≡ None) (λ f. network_fault (B.OfferBook.meaning book.now) (N.Network.meaning network.now) (step_of constraints.now stage) (base_of dispatch.now) ≡ Some f) }
+    ensures { MatchResult result (λ _. network_fault (B.OfferBook.meaning book.now) (N.Network.meaning network.now) (held_to step.now) (base_of dispatch.now) ≡ None) (λ f. network_fault (B.OfferBook.meaning book.now) (N.Network.meaning network.now) (held_to step.now) (base_of dispatch.now) ≡ Some f) }
 {
-    if !balanced(book, dispatch, constraints) {
-        return Err(Fault {
-            cause: Cause::Balance,
-            place: 0,
-        });
+    if !balanced(book, dispatch, step) {
+        return Err(Fault::new(Cause::Balance, 0));
     }
-    match first_overloaded(book, network, dispatch, constraints, stage) {
-        Some(place) => Err(Fault {
-            cause: Cause::FlowLimit,
-            place,
-        }),
+    match first_overloaded(book, network, dispatch, step) {
+        Some(place) => Err(Fault::new(Cause::FlowLimit, place)),
         None => Ok(()),
     }
 }
@@ -42,14 +35,13 @@ fn check_network<B: OfferBook, N: Network>(
 pub(crate) fn feasible_of<B: OfferBook, N: Network>(
     book: &B,
     network: &N,
-    constraints: &Constraints,
-    stage: Stage,
+    step: &Step,
     points: &[u16],
 ) -> Result<Dispatch, Fault>
     requires { length points.now ≡ (B.OfferBook.meaning book.now).count }
-    ensures { MatchResult result (λ d. (dispatch_fault (B.OfferBook.meaning book.now) (N.Network.meaning network.now) (step_of constraints.now stage) (pointed points.now) ≡ None) × (base_of d ≡ pointed points.now)) (λ f. dispatch_fault (B.OfferBook.meaning book.now) (N.Network.meaning network.now) (step_of constraints.now stage) (pointed points.now) ≡ Some f) }
+    ensures { MatchResult result (λ d. (dispatch_fault (B.OfferBook.meaning book.now) (N.Network.meaning network.now) (held_to step.now) (pointed points.now) ≡ None) × (base_of d ≡ pointed points.now)) (λ f. dispatch_fault (B.OfferBook.meaning book.now) (N.Network.meaning network.now) (held_to step.now) (pointed points.now) ≡ Some f) }
 {
     let dispatch = dispatch_of(book, points)?;
-    check_network(book, network, constraints, stage, &dispatch)?;
+    check_network(book, network, step, &dispatch)?;
     Ok(dispatch)
 }

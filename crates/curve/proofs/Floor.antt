@@ -1,9 +1,10 @@
 -- Quotients rounded down: they keep order, and a part of a whole lies between 0 and the whole.
-use Rattle.std.proofs.Common.{◌≡◌, ℕ, zero, suc, ◌+◌, ◌*◌, ◌/◌, ◌≤◌, ℤ, pos, negsuc, ◌*ℤ◌, neg_ℤ, ◌≤ℤ◌, ap, ◌∙◌, le_trans, suc-mul, mul-le-mul_left, le-div_iff_mul-le, zero-mul, div-mul-le_self, mul-div_cancel, arith}
+use Rattle.std.proofs.Common.{◌≡◌, ℕ, zero, suc, ◌+◌, ◌*◌, ◌/◌, ◌≤◌, ℤ, pos, negsuc, ◌*ℤ◌, neg_ℤ, ◌≤ℤ◌, ap, ◌∙◌, le_trans, suc-mul, le-div_iff_mul-le, div-mul-le_self, mul-div_cancel, arith}
 use native.Mathlib.Nat.{zero-div, div-zero}
 use lib.Arith.{digits_div}
 use Rattle.std.proofs.lemmas.Int.{ints}
-use Rattle.curve.specs.Line.{floor_div}
+use Rattle.shelf.specs.Quotient.{floor_div}
+use Rattle.shelf.proofs.Product.{neg_times, times_keeps}
 
 div_grows : (a b w : ℕ) → a ≤ b → a / w ≤ b / w
 div_grows a b zero h = rw (div-zero a, div-zero b) (omega arith)
@@ -27,11 +28,9 @@ floor_whole (negsuc n) w =
 
 -- a product with a natural number moves with it, up or down by the sign
 pub times_grows : (d : ℤ) (s t : ℕ) → pos 0 ≤ℤ d → s ≤ t → (d *ℤ pos s) ≤ℤ (d *ℤ pos t)
-times_grows (pos n) s t p h = let g = mul-le-mul_left n h in omega (arith, ints)
-times_grows (negsuc n) s t p h = absurd (omega (arith, ints))
+times_grows d s t p h = times_keeps d (pos s) (pos t) p (omega (arith, ints))
 
 pub times_falls : (d : ℤ) (s t : ℕ) → d ≤ℤ pos 0 → s ≤ t → (d *ℤ pos t) ≤ℤ (d *ℤ pos s)
-times_falls (pos n) s t p h =
-    let z : n ≡ 0 = omega (arith, ints) in
-    rw z (omega (arith, ints, zero-mul s, zero-mul t))
-times_falls (negsuc n) s t p h = let g = mul-le-mul_left (suc n) h in omega (arith, ints)
+times_falls d s t p h =
+    let up = times_keeps (neg_ℤ d) (pos s) (pos t) (omega (arith, ints)) (omega (arith, ints)) in
+    omega (arith, ints, neg_times d (pos s), neg_times d (pos t), up)

@@ -1,4 +1,4 @@
 pub mod Floor
-pub mod Kept
+mod Kept
 pub mod Sound
 pub mod Straight

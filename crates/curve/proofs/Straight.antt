@@ -4,7 +4,8 @@ use lib.IntN.{*ℤ-zero}
 use Rattle.std.proofs.lemmas.Int.{ints}
 use Rattle.std.proofs.lemmas.Bool.{leb-true, leb-false, cond_both}
 use Rattle.rows.specs.declared.row.Point.{Point}
-use Rattle.curve.specs.Line.{floor_div, between, price_past, line_price}
+use Rattle.shelf.specs.Quotient.{floor_div}
+use Rattle.curve.specs.Line.{between, price_past, line_price}
 use Rattle.curve.proofs.Floor.{floor_grows, floor_zero, floor_whole, times_grows, times_falls}
 
 -- no part of a rise is no rise

@@ -1,11 +1,7 @@
 -- The line price of points: straight lines between them, flat before the first and past the last.
-use Rattle.std.specs.Prelude.{ℕ, ◌-◌, ◌/◌, cond, List, [], ◌∷◌, ℤ, pos, negsuc, ◌+ℤ◌, ◌-ℤ◌, ◌*ℤ◌, nat_le}
+use Rattle.std.specs.Prelude.{ℕ, ◌-◌, cond, List, [], ◌∷◌, ℤ, pos, ◌+ℤ◌, ◌-ℤ◌, ◌*ℤ◌, nat_le}
+use Rattle.shelf.specs.Quotient.{floor_div}
 use Rattle.rows.specs.declared.row.Point.{Point}
-
--- a quotient rounded down, toward minus infinity
-abbrev pub floor_div : ℤ → ℕ → ℤ
-floor_div (pos n) d = pos (n / d)
-floor_div (negsuc n) d = negsuc (n / d)
 
 -- at level q of the line from a to b: c1 + (c2 − c1)·(q − m1)/(m2 − m1)
 unfoldable pub between : Point → Point → ℕ → ℤ

@@ -1,6 +1,6 @@
 // Rows become completed curves, each class by its own rule.
 
-ghost use Rattle.std.specs.Prelude.{◌≡◌, ℕ, ◌++◌, pos, IfOk, Err, MatchResult};
+ghost use Rattle.std.specs.Prelude.{◌≡◌, ℕ, ◌≤◌, ◌++◌, length, pos, IfOk, Err, MatchResult};
 ghost use Rattle.rows.specs.Rules.{points_of, Lawful};
 ghost use Rattle.curve.specs.Listed.{listed, kept};
 ghost use Rattle.curve.specs.Complete.{leading, trailing, scheduled, renewable, drawn, completed, last_of, row_price, price_on, Completes, Sound};
@@ -8,49 +8,51 @@ ghost use Rattle.rows.specs.Classes.{class_of};
 
 use crate::curve::Curve;
 use crate::line::line_price;
-use crate::points::Points;
+use crate::points::{Points, table_of};
 use fault::Fault;
-use rows::{Class, OfferCap, Point, Row, class_of};
+use rows::{Class, OfferCap, Point, Row};
 
 // The lowest price, in cents, and the one above it.
 const FLOOR: i32 = -25_000;
 
-const NEAR_FLOOR: i32 = -24_999;
+const NEAR_FLOOR: i32 = FLOOR + 1;
+
 // The price of a renewable's last tenths, where it submitted no points.
 const RENEWABLE_TOP: i32 = 150_000;
-// The least price of a unit committed for reliability.
-const COMMITTED_FLOOR: i32 = 25_000;
 
-impl Points {
-    // What stands before submitted points that begin at `first`.
-    fn lead(&mut self, lsl: u16, first: Point)
-        ensures { listed self.new ≡ kept (listed self.old ++ leading lsl first) }
-    {
-        self.push_if(
-            lsl < first.level,
-            Point {
-                level: lsl,
-                price: FLOOR,
-            },
-        );
-        let knee = Point {
+// The least price of a unit committed for reliability.
+pub const COMMITTED_FLOOR: i32 = 25_000;
+
+// What stands before submitted points that begin at `first`.
+fn leading(lsl: u16, first: Point) -> Points
+    ensures { listed result ≡ leading lsl first }
+{
+    let mut points = table_of(&[]);
+    if lsl < first.level {
+        points.push(Point {
+            level: lsl,
+            price: FLOOR,
+        });
+    }
+    if u32::from(lsl) + 10 < u32::from(first.level) {
+        points.push(Point {
             level: first.level.saturating_sub(10),
             price: NEAR_FLOOR.min(first.price),
-        };
-        self.push_if(lsl as u32 + 10 < first.level as u32, knee);
+        });
     }
+    points
+}
 
-    // What stands after submitted points that end at `last`.
-    fn trail(&mut self, hsl: u16, last: Point)
-        ensures { listed self.new ≡ kept (listed self.old ++ trailing hsl last) }
-    {
-        self.push_if(
-            last.level < hsl,
-            Point {
-                level: hsl,
-                price: last.price,
-            },
-        );
+// What stands after submitted points that end at `last`.
+fn trail(points: &mut Points, hsl: u16, last: Point)
+    requires { length (listed points.old) ≤ 13 }
+    ensures { listed points.new ≡ kept (listed points.old ++ trailing hsl last) }
+{
+    if last.level < hsl {
+        points.push(Point {
+            level: hsl,
+            price: last.price,
+        });
     }
 }
 
@@ -58,47 +60,45 @@ impl Points {
 fn scheduled(offer_cap: OfferCap, row: &Row) -> Points
     ensures { listed result ≡ scheduled offer_cap.cents row.now }
 {
-    let past = row.hsl.min(row.reading.saturating_add(10));
     let top = offer_cap.price();
-    let mut points = Points::new();
-    points.push(Point {
-        level: row.lsl,
-        price: FLOOR,
-    });
-    points.push(Point {
-        level: row.reading,
-        price: NEAR_FLOOR,
-    });
-    points.push(Point {
-        level: past,
-        price: top - 1,
-    });
-    points.push(Point {
-        level: row.hsl,
-        price: top,
-    });
-    points
+    table_of(&[
+        Point {
+            level: row.lsl,
+            price: FLOOR,
+        },
+        Point {
+            level: row.reading,
+            price: NEAR_FLOOR,
+        },
+        Point {
+            level: row.hsl.min(row.reading.saturating_add(10)),
+            price: top - 1,
+        },
+        Point {
+            level: row.hsl,
+            price: top,
+        },
+    ])
 }
 
 // The proxy of a renewable.
 fn renewable(row: &Row) -> Points
     ensures { listed result ≡ renewable row.now }
 {
-    let knee = row.lsl.max(row.hsl.saturating_sub(10));
-    let mut points = Points::new();
-    points.push(Point {
-        level: row.lsl,
-        price: FLOOR,
-    });
-    points.push(Point {
-        level: knee,
-        price: NEAR_FLOOR,
-    });
-    points.push(Point {
-        level: row.hsl,
-        price: RENEWABLE_TOP,
-    });
-    points
+    table_of(&[
+        Point {
+            level: row.lsl,
+            price: FLOOR,
+        },
+        Point {
+            level: row.lsl.max(row.hsl.saturating_sub(10)),
+            price: NEAR_FLOOR,
+        },
+        Point {
+            level: row.hsl,
+            price: RENEWABLE_TOP,
+        },
+    ])
 }
 
 // The submitted points with their ends, or the proxy where none were submitted.
@@ -109,10 +109,9 @@ fn drawn(row: &Row, proxy: Points) -> Points
     let [first, ..] = submitted else {
         return proxy;
     };
-    let mut points = Points::new();
-    points.lead(row.lsl, *first);
+    let mut points = leading(row.lsl, *first);
     points.append(submitted);
-    points.trail(row.hsl, submitted[submitted.len() - 1]);
+    trail(&mut points, row.hsl, submitted[submitted.len() - 1]);
     points
 }
 
@@ -120,9 +119,7 @@ fn drawn(row: &Row, proxy: Points) -> Points
 fn submitted(row: &Row) -> Points
     ensures { listed result ≡ points_of row.now }
 {
-    let mut points = Points::new();
-    points.append(row.submitted());
-    points
+    table_of(row.submitted())
 }
 
 fn completed(class: Class, offer_cap: OfferCap, row: &Row) -> Points
@@ -143,7 +140,7 @@ impl Curve {
         Curve {
             class: Class::Thermal,
             hsl: 0,
-            points: Points::new(),
+            points: table_of(&[]),
         }
     }
 
@@ -153,7 +150,7 @@ impl Curve {
         ensures prices { IfOk result (λ c. (q : ℕ) → price_on c q ≡ row_price offer_cap.cents row.now q) }
         ensures sound { Lawful offer_cap.cents row.now → Sound offer_cap.cents row.now }
     {
-        let class = class_of(row.letter)?;
+        let class = Class::try_from(row.letter)?;
         Ok(Curve {
             class,
             hsl: row.hsl,
@@ -165,13 +162,13 @@ impl Curve {
     pub fn price(&self, level: u16) -> i32
         ensures { result ≡ price_on self.now level }
     {
-        let points = self.points.as_slice();
+        let points = self.points();
         match self.class {
-            Class::Thermal | Class::Renewable => line_price(points, level as u32),
-            Class::Committed => line_price(points, level as u32).max(COMMITTED_FLOOR),
+            Class::Thermal | Class::Renewable => line_price(points, u32::from(level)),
+            Class::Committed => line_price(points, u32::from(level)).max(COMMITTED_FLOOR),
             Class::Load => {
-                let shifted = level as u32 + top_level(points) as u32;
-                line_price(points, shifted.saturating_sub(self.hsl as u32))
+                let shifted = u32::from(level) + u32::from(self.top_level());
+                line_price(points, shifted.saturating_sub(u32::from(self.hsl)))
             }
         }
     }
@@ -182,13 +179,11 @@ impl Curve {
     {
         self.points.as_slice()
     }
-}
 
-fn top_level(points: &[Point]) -> u16
-    ensures { result ≡ (last_of points.now).level }
-{
-    match points.last() {
-        Some(point) => point.level,
-        None => 0,
+    // The level of the last point; 0 where there is none.
+    pub fn top_level(&self) -> u16
+        ensures { result ≡ (last_of (listed self.now.points)).level }
+    {
+        self.points().last().map_or(0, |point| point.level)
     }
 }

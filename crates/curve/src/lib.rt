@@ -4,8 +4,8 @@
 mod complete;
 mod curve;
 mod line;
-mod list;
 mod points;
 
+pub use complete::COMMITTED_FLOOR;
 pub use curve::Curve;
 pub use line::line_price;

@@ -1,7 +1,8 @@
 // Straight lines between points.
 
 ghost use Rattle.std.specs.Prelude.{◌≡◌, ◌<◌, ◌≤◌, pos, negsuc, ◌*ℤ◌, ◌≤ℤ◌};
-ghost use Rattle.curve.specs.Line.{between, floor_div, line_price};
+ghost use Rattle.shelf.specs.Quotient.{floor_div};
+ghost use Rattle.curve.specs.Line.{between, line_price};
 
 use rows::Point;
 
@@ -13,7 +14,7 @@ fn part_of(rise: i64, along: u32, run: u32) -> i64
     ensures up { pos 0 ≤ℤ rise → (pos 0 ≤ℤ result) × (result ≤ℤ rise) }
     ensures down { rise ≤ℤ pos 0 → (result ≤ℤ pos 0) × (rise ≤ℤ result) }
 {
-    (rise * along as i64).div_euclid(run as i64)
+    (rise * i64::from(along)).div_euclid(i64::from(run))
 }
 
 // The price at a level of the straight line between two points.
@@ -22,13 +23,13 @@ fn price_between(from: Point, to: Point, level: u32) -> i32
     requires upto { level ≤ to.level }
     ensures { result ≡ between from to level }
 {
-    let rise = to.price as i64 - from.price as i64;
+    let rise = i64::from(to.price) - i64::from(from.price);
     let part = part_of(
         rise,
-        level - from.level as u32,
-        to.level as u32 - from.level as u32,
+        level - u32::from(from.level),
+        u32::from(to.level) - u32::from(from.level),
     );
-    (from.price as i64 + part) as i32
+    (i64::from(from.price) + part) as i32
 }
 
 // The line price of the points at a level. No points have the price 0.
@@ -38,15 +39,13 @@ pub fn line_price(points: &[Point], level: u32) -> i32
     let [first, rest @ ..] = points else {
         return 0;
     };
-    if level <= first.level as u32 {
+    if level <= u32::from(first.level) {
         return first.price;
     }
-    let mut before = *first;
-    for point in rest {
-        if level <= point.level as u32 {
-            return price_between(before, *point, level);
+    for (before, point) in points.iter().zip(rest) {
+        if level <= u32::from(point.level) {
+            return price_between(*before, *point, level);
         }
-        before = *point;
     }
-    before.price
+    rest.last().unwrap_or(first).price
 }

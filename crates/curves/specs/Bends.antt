@@ -1,14 +1,14 @@
 -- Where a curve has points and jumps.
 use Rattle.std.specs.Prelude.{ℕ, ◌+◌, Bool, false, not, ◌&&◌, ◌||◌, List, [], ◌∷◌, ◌==◌, int_le}
+use Rattle.std.specs.List.{list_any}
 use Rattle.rows.specs.declared.class.Class.{Class}
 use Rattle.rows.specs.declared.class.Class.TheVariants.{Thermal, Renewable, Committed, Load}
 use Rattle.rows.specs.declared.row.Point.{Point}
 use Rattle.curve.specs.Complete.{last_of}
 
 -- whether a point stands at the place `at`, where each stands `to` above its level
-unfoldable pub point_at : ℕ → ℕ → List Point → Bool
-point_at at to [] = false
-point_at at to (p ∷ ps) = at == p.level + to || point_at at to ps
+abbrev pub point_at : ℕ → ℕ → List Point → Bool
+point_at at to ps = list_any (λ p. at == p.level + to) ps
 
 -- a load's curve is shifted so that its last point stands at HSL: level q + from meets m + to
 abbrev pub from_of : Class → List Point → ℕ

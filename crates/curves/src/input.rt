@@ -2,15 +2,20 @@
 // terms and the reference prices of its participants. The cap of house rows comes before them.
 
 ghost use Rattle.std.specs.Prelude.{◌≡◌, [], ◌∷◌, ◌++◌, is_some, IfErr, if◌then◌else◌, Some, None, vec_len, MatchResult, OnOk, nat_eq};
-ghost use Rattle.curves.specs.declared.stop.Flaw.TheVariants.{NoCap, SecondCap, Mixed, SecondReference, PriceCount};
-ghost use Rattle.curves.specs.declared.stop.Stop.TheVariants.{Malformed};
+ghost use Rattle.shell.specs.declared.flaw.Flaw.TheVariants.{NoCap, SecondCap, Mixed, SecondReference, PriceCount};
+ghost use Rattle.shell.specs.declared.stop.Stop.TheVariants.{Malformed};
 
-use crate::stop::{Flaw, Stop};
 use block::BlockRow;
+use calls::ParticipantTerm;
+use entries::References;
 use rows::Row;
-use script::{Mistake, References, Statement, TermLine, read_line};
+use script::{Statement, read_line};
+use shell::{Flaw, Stop};
 use std::alloc::Global;
+use words::Mistake;
 
+// Each program keeps an input of its own: each closes its lists by another rule, and one for all would be no plainer,
+// since it would be told which.
 #[derive(Drop)]
 pub(crate) struct Input {
     // how many lines were read
@@ -18,7 +23,7 @@ pub(crate) struct Input {
     cap: Option<u32>,
     rows: Vec<Row>,
     blocks: Vec<BlockRow>,
-    terms: Vec<TermLine>,
+    terms: Vec<ParticipantTerm>,
     references: Option<References>,
 }
 
@@ -49,7 +54,7 @@ impl Input {
         self.blocks.as_slice()
     }
 
-    pub(crate) fn terms(&self) -> &[TermLine]
+    pub(crate) fn terms(&self) -> &[ParticipantTerm]
         ensures { result.now ≡ self.now.terms.items }
     {
         self.terms.as_slice()
@@ -81,9 +86,9 @@ impl Input {
             Ok(Statement::Block(row)) => self.add_block(row),
             Ok(Statement::Term(term)) => self.add_term(term),
             Ok(Statement::Reference(references)) => self.refer(references),
-            Ok(Statement::Line(_)) | Ok(Statement::Base(_)) => self.flawed(Flaw::Form(
-                Mistake::UnknownWord,
-            )),
+            Ok(Statement::Line(_) | Statement::Base(_)) => {
+                self.flawed(Flaw::Form(Mistake::UnknownWord))
+            }
             Err(mistake) => self.flawed(Flaw::Form(mistake)),
         }
     }
@@ -100,6 +105,7 @@ impl Input {
         Err(Stop::Malformed(self.lines, flaw))
     }
 
+    // Each of the three programs holds its lines to an order of its own, so each puts a line away by itself.
     fn set_cap(&mut self, cents: u32) -> Result<(), Stop>
         ensures first { OnOk result ((self.old.cap ≡ None) × (self.new.cap ≡ Some cents)) }
         ensures again { IfErr result (λ s. s ≡ Malformed self.old.lines (if is_some self.old.cap then SecondCap else Mixed)) }
@@ -124,7 +130,7 @@ impl Input {
             return self.flawed(Flaw::NoCap);
         }
         if self.rows_are_done() {
-            return self.flawed(Flaw::LateRow);
+            return self.flawed(Flaw::RowAfterTerms);
         }
         self.rows.push(row)?;
         Ok(())
@@ -137,13 +143,13 @@ impl Input {
             return self.flawed(Flaw::Mixed);
         }
         if self.rows_are_done() {
-            return self.flawed(Flaw::LateRow);
+            return self.flawed(Flaw::RowAfterTerms);
         }
         self.blocks.push(row)?;
         Ok(())
     }
 
-    fn add_term(&mut self, term: TermLine) -> Result<(), Stop>
+    fn add_term(&mut self, term: ParticipantTerm) -> Result<(), Stop>
         ensures { OnOk result (self.new.terms.items ≡ self.old.terms.items ++ term ∷ []) }
     {
         self.terms.push(term)?;

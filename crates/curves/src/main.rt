@@ -7,28 +7,20 @@ mod input;
 mod mitigation;
 mod printing;
 mod steps;
-mod stop;
 mod unit;
 
 use block::BlockBook;
-use fault::Fault;
 use house::HouseBook;
 use input::Input;
 use mitigation::mitigated;
 use printing::print_participant;
 use rows::OfferCap;
+use shell::{Stop, print_end, read_lines};
 use std::io;
-use std::io::{BufRead, BufReader, ErrorKind, Write};
-use stop::{Flaw, Stop};
 use unit::Unit;
 
 fn main(rt: HostRuntime) -> io::Result<()> {
-    match run(&rt) {
-        Ok(()) => Ok(()),
-        Err(Stop::Malformed(line, flaw)) => print_error(&rt, line, flaw),
-        Err(Stop::Refused(fault)) => print_refusal(&rt, fault),
-        Err(Stop::Failed(error)) => Err(error),
-    }
+    print_end(&rt, run(&rt))
 }
 
 fn run(rt: &HostRuntime) -> Result<(), Stop> {
@@ -41,15 +33,11 @@ fn run(rt: &HostRuntime) -> Result<(), Stop> {
 }
 
 fn read_input(rt: &HostRuntime) -> Result<Input, Stop> {
-    let heap = rt.alloc();
-    let mut input = Input::new(heap);
-    for line in BufReader::new(heap, rt.stdin())?.lines(heap) {
-        match line {
-            Ok(text) => input.read(text.as_str())?,
-            Err(error) if error.kind() == ErrorKind::InvalidData => return Err(input.not_text()),
-            Err(error) => return Err(error.into()),
-        }
-    }
+    let mut input = Input::new(rt.alloc());
+    read_lines(rt, |line| match line {
+        Some(text) => input.read(text),
+        None => Err(input.not_text()),
+    })?;
     Ok(input)
 }
 
@@ -75,17 +63,4 @@ fn print_blocks(rt: &HostRuntime, input: &Input) -> Result<(), Stop> {
         print_participant(rt, &book, place, row, input.references().is_some())?;
     }
     Ok(())
-}
-
-fn print_error(rt: &HostRuntime, line: usize, flaw: Flaw) -> io::Result<()> {
-    let reason = flaw.reason();
-    println!(rt; "error {line} {reason}")
-}
-
-fn print_refusal(rt: &HostRuntime, fault: Fault) -> io::Result<()> {
-    let mut line = [0; 80];
-    match fault.write_line(&mut line) {
-        Ok(end) if end <= line.len() => rt.stdout().write_all(&line[0..end]),
-        _ => Ok(()),
-    }
 }

@@ -6,13 +6,14 @@ ghost use Rattle.curves.specs.Terms.{asked, declined, first_declined, termed, re
 
 use book::OfferBook;
 use bounded::{Bounded, Term};
+use calls::ParticipantTerm;
+use entries::References;
 use fault::{Cause, Fault};
-use script::{References, TermLine};
 
 // The book with each term in its place, unless one is declined.
 pub(crate) fn mitigated<B: OfferBook + Drop>(
     book: B,
-    terms: &[TermLine],
+    terms: &[ParticipantTerm],
     references: Option<References>,
 ) -> Result<Bounded<B>, Fault>
     ensures { MatchResult result (λ b. (b.book ≡ book) × (first_declined (B.OfferBook.meaning book).count terms.now ≡ None) × (layer_of b.table ≡ referred (termed fresh_layer terms.now) references)) (λ f. first_declined (B.OfferBook.meaning book).count terms.now ≡ Some f) }
@@ -21,13 +22,13 @@ pub(crate) fn mitigated<B: OfferBook + Drop>(
     let mut bounded = Bounded::new(book);
     set_terms(&mut bounded, count, terms)?;
     if let Some(given) = references {
-        bounded.refer(given.prices);
+        bounded.refer(given.items);
     }
     Ok(bounded)
 }
 
 // The terms of all lines, of a book with so many participants.
-fn set_terms<B>(book: &mut Bounded<B>, count: usize, terms: &[TermLine]) -> Result<(), Fault>
+fn set_terms<B>(book: &mut Bounded<B>, count: usize, terms: &[ParticipantTerm]) -> Result<(), Fault>
     ensures same { book.new.book ≡ book.old.book }
     ensures set { MatchResult result (λ _. (first_declined count terms.now ≡ None) × (layer_of book.new.table ≡ termed (layer_of book.old.table) terms.now)) (λ f. first_declined count terms.now ≡ Some f) }
 {
@@ -39,7 +40,7 @@ fn set_terms<B>(book: &mut Bounded<B>, count: usize, terms: &[TermLine]) -> Resu
 }
 
 // The term of a line, for a participant out of so many.
-fn term_of(count: usize, line: &TermLine) -> Result<Term, Fault>
+fn term_of(count: usize, line: &ParticipantTerm) -> Result<Term, Fault>
     ensures { MatchResult result (λ t. (declined count line.now ≡ None) × (terms_of t ≡ asked line.now)) (λ f. declined count line.now ≡ Some f) }
 {
     if line.participant >= count {

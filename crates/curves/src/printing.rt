@@ -29,7 +29,7 @@ pub(crate) fn print_participant<B: OfferBook, C: Corners>(
 
 fn print_header<B: OfferBook>(rt: &HostRuntime, book: &B, participant: usize) -> io::Result<()> {
     let bus = book.bus(participant);
-    let side = book.side(participant);
+    let side = book.side(participant).map_or(0, |side| side.sign());
     let low = book.low(participant);
     let high = book.high(participant);
     print!(rt; " bus {bus} side {side} low {low} high {high}")?;

@@ -19,8 +19,8 @@ fn ends_at(blocks: &[Block], level: u16) -> bool
 {
     let mut end: u32 = 0;
     for block in blocks {
-        end += block.size as u32;
-        if end == level as u32 {
+        end += u32::from(block.size);
+        if end == u32::from(level) {
             return true;
         }
     }

@@ -1,17 +1,14 @@
 // A row with its completed curve, and the levels at which that curve bends.
 
 ghost use Rattle.std.specs.Prelude.{◌≡◌, ◌+◌, ◌<◌, T, pos, ◌≤ℤ◌, IfOk};
-ghost use Rattle.curve.specs.Complete.{Completes, last_of, price_on};
+ghost use Rattle.curve.specs.Complete.{Completes, price_on};
 ghost use Rattle.curve.specs.Listed.{listed};
 ghost use Rattle.curves.specs.Bends.{from_of, to_of, point_at, jump_at, jump_over};
 
 use crate::corners::Corners;
-use curve::Curve;
+use curve::{COMMITTED_FLOOR, Curve};
 use fault::Fault;
-use rows::{Class, OfferCap, Point, Row, class_of};
-
-// The least price of a unit committed for reliability, in cents.
-const COMMITTED_FLOOR: i32 = 25_000;
+use rows::{Class, OfferCap, Point, Row};
 
 // A level q lies on a point of level m where q + `from` = m + `to`: a load's bid is shifted so
 // that it ends at HSL, and a generator's curve is not shifted.
@@ -29,9 +26,9 @@ impl Unit {
         ensures curve { IfOk result (λ u. (u.row ≡ row.now) × Completes offer_cap.cents row.now u.curve) }
         ensures shift { IfOk result (λ u. (u.from ≡ from_of u.class (listed u.curve.points)) × (u.to ≡ to_of u.class row.now.hsl)) }
     {
-        let class = class_of(row.letter)?;
+        let class = Class::try_from(row.letter)?;
         let curve = Curve::complete(offer_cap, row)?;
-        let from = shifted_from(class, curve.points());
+        let from = shifted_from(class, &curve);
         let to = shifted_to(class, row.hsl);
         Ok(Unit {
             row: *row,
@@ -64,7 +61,7 @@ impl Unit {
         ensures { result ≡ point_at (level + self.now.from) self.now.to (listed self.now.curve.points) }
     {
         point_at(
-            level as u32 + self.from as u32,
+            u32::from(level) + u32::from(self.from),
             self.to,
             self.curve.points(),
         )
@@ -75,7 +72,7 @@ impl Unit {
         ensures { result ≡ jump_at (level + self.now.from) self.now.to (listed self.now.curve.points) }
     {
         jump_at(
-            level as u32 + self.from as u32,
+            u32::from(level) + u32::from(self.from),
             self.to,
             self.curve.points(),
         )
@@ -86,7 +83,7 @@ impl Unit {
         ensures at { T result → price_on self.now.curve level ≡ pos 25000 }
         ensures next { T result → pos 25001 ≤ℤ price_on self.now.curve (level + 1) }
     {
-        matches!(self.class, Class::Committed)
+        self.class == Class::Committed
             && level < self.row.hdl
             && self.curve.price(level) == COMMITTED_FLOOR
             && self.curve.price(level + 1) > COMMITTED_FLOOR
@@ -103,12 +100,9 @@ impl Corners for Unit {
 fn point_at(at: u32, to: u16, points: &[Point]) -> bool
     ensures { result ≡ point_at at to points.now }
 {
-    for point in points {
-        if at == point.level as u32 + to as u32 {
-            return true;
-        }
-    }
-    false
+    points
+        .iter()
+        .any(|point| at == u32::from(point.level) + u32::from(to))
 }
 
 // Whether two points of different prices stand at the place.
@@ -131,17 +125,17 @@ fn jump_at(at: u32, to: u16, points: &[Point]) -> bool
 fn jump_over(at: u32, to: u16, before: Point, after: Point) -> bool
     ensures { result ≡ jump_over at to before after }
 {
-    at == before.level as u32 + to as u32
+    at == u32::from(before.level) + u32::from(to)
         && before.level == after.level
         && before.price != after.price
 }
 
 // The last level of a load's bid.
-fn shifted_from(class: Class, points: &[Point]) -> u16
-    ensures { result ≡ from_of class points.now }
+fn shifted_from(class: Class, curve: &Curve) -> u16
+    ensures { result ≡ from_of class (listed curve.now.points) }
 {
     match class {
-        Class::Load => last_level(points),
+        Class::Load => curve.top_level(),
         _ => 0,
     }
 }
@@ -153,14 +147,5 @@ fn shifted_to(class: Class, hsl: u16) -> u16
     match class {
         Class::Load => hsl,
         _ => 0,
-    }
-}
-
-fn last_level(points: &[Point]) -> u16
-    ensures { result ≡ (last_of points.now).level }
-{
-    match points.last() {
-        Some(point) => point.level,
-        None => 0,
     }
 }

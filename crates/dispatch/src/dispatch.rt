@@ -1,11 +1,13 @@
 // Base points with their bound in the type.
 
-ghost use Rattle.std.specs.Prelude.{◌≡◌, ℕ, ◌≤◌, length, slice_index};
+ghost use Rattle.std.specs.Prelude.{ℕ, ◌≤◌, slice_index};
+ghost use Rattle.given.specs.Kept.{kept};
 
-// One base point for each of 64 participants, in tenths, each at most 20,000.
+use given::Given;
+
+// One base point for each of up to 64 participants, in tenths, each at most 20,000.
 #[derive(Clone, Copy)]
 pub struct Dispatch {
-    pub(crate) base: [u16; 64],
-    ghost room: { length base ≡ 64 },
-    ghost most: { ((i : ℕ) → slice_index base i ≤ 20000) },
+    pub(crate) base: Given<u16, 64>,
+    ghost most: { ((i : ℕ) → slice_index (kept base.count base.items) i ≤ 20000) },
 }

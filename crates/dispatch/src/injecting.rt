@@ -1,23 +1,22 @@
 // What a dispatch injects, bus by bus, and the flow that it makes on a line.
 
-ghost use Rattle.std.specs.Prelude.{◌≡◌, ℕ, ◌<◌, ◌≤◌, pos, negsuc, ◌+ℤ◌, ◌*ℤ◌, ◌≤ℤ◌, if◌then◌else◌, nat_eq};
+ghost use Rattle.std.specs.Prelude.{◌≡◌, ℕ, ◌<◌, pos, negsuc, ◌+ℤ◌, ◌≤ℤ◌, if◌then◌else◌, nat_eq};
 ghost use Rattle.network.specs.Sheet.{sheet_of};
 ghost use Rattle.dispatch.specs.Base.{base_of};
-ghost use Rattle.dispatch.specs.Injected.{injected, dispatch_flow, participant_flow};
+ghost use Rattle.dispatch.specs.Injected.{injection, injected, dispatch_flow, participant_flow};
 
 use crate::dispatch::Dispatch;
+use crate::sides::sided;
 use book::OfferBook;
 use network::{Injections, Network};
 
-// Side times base point.
-fn amount(side: i8, base: u16) -> i32
-    requires side { (negsuc 0 ≤ℤ side) × (side ≤ℤ pos 1) }
-    requires base { base ≤ 20000 }
-    ensures value { result ≡ side *ℤ pos base }
+// What a participant injects: side times base point.
+pub fn injection<B: OfferBook>(book: &B, dispatch: &Dispatch, participant: usize) -> i64
+    ensures value { result ≡ injection (B.OfferBook.meaning book.now) (base_of dispatch.now) participant }
     ensures least { negsuc 19999 ≤ℤ result }
     ensures most { result ≤ℤ pos 20000 }
 {
-    side as i32 * base as i32
+    sided(book.side(participant), dispatch.base(participant) as i64)
 }
 
 // One amount more at a bus of the sheet.
@@ -37,7 +36,7 @@ pub fn injections_of<B: OfferBook>(book: &B, dispatch: &Dispatch) -> Injections
 {
     let mut sheet = Injections::new();
     for participant in 0..book.count() {
-        let amount = amount(book.side(participant), dispatch.base(participant));
+        let amount = injection(book, dispatch, participant) as i32;
         add(&mut sheet, book.bus(participant), amount);
     }
     sheet

@@ -4,6 +4,8 @@
 mod dispatch;
 mod injecting;
 mod making;
+mod sides;
 
 pub use dispatch::Dispatch;
-pub use injecting::{flow_of, injections_of};
+pub use injecting::{flow_of, injection, injections_of};
+pub use sides::sided;

@@ -1,43 +1,26 @@
 // A row of a block book: `block 0 100:2000 50:3000` is bus and blocks.
 
-ghost use Rattle.std.specs.Prelude.{◌≡◌, ◌+◌, ◌<◌, ◌≤◌, min, slice_set};
+ghost use Rattle.std.specs.Prelude.{IfOk};
+ghost use Rattle.words.specs.Next.{left};
+ghost use Rattle.entries.specs.Priced.{IsBlock};
+ghost use Rattle.entries.specs.Rows.{IsBlockRow};
 
+use crate::list::read_counted;
+use crate::priced::read_priced;
 use block::{Block, BlockRow};
-use words::{Mistake, Words, clamp_u8, clamp_u16, read_number, read_price};
+use words::{Mistake, Words, read_field};
 
-pub fn read_block_row(mut words: Words) -> Result<BlockRow, Mistake> {
-    let bus = clamp_u8(read_number(words.word()?)?);
-    let blocks = [Block { size: 0, price: 0 }; 10];
-    let mut row = BlockRow {
-        bus,
-        count: 0,
-        blocks,
-    };
-    for word in words.rest() {
-        submit(&mut row, read_block(word)?);
-    }
-    Ok(row)
-}
-
-// One block more: every block is counted, and the first ten are kept.
-fn submit(row: &mut BlockRow, block: Block)
-    ensures count { row.new.count ≡ min (row.old.count + 1) 18446744073709551615 }
-    ensures kept { row.old.count < 10 → row.new.blocks ≡ slice_set row.old.blocks row.old.count block }
-    ensures past { 10 ≤ row.old.count → row.new.blocks ≡ row.old.blocks }
+pub fn read_block_row(mut words: Words) -> Result<BlockRow, Mistake>
+    ensures { IfOk result (IsBlockRow (left words.entry)) }
 {
-    let place = row.count;
-    row.count = place.saturating_add(1);
-    if place < 10 {
-        row.blocks[place] = block;
-    }
+    let bus = read_field(words.word()?)?;
+    let blocks = read_counted(words, Block { size: 0, price: 0 }, read_block)?;
+    Ok(BlockRow { bus, blocks })
 }
 
-fn read_block(word: &str) -> Result<Block, Mistake> {
-    let Some((size, price)) = word.split_once(':') else {
-        return Err(Mistake::NotABlock);
-    };
-    Ok(Block {
-        size: clamp_u16(read_number(size)?),
-        price: read_price(price)?,
-    })
+fn read_block(word: &str) -> Result<Block, Mistake>
+    ensures { IfOk result (IsBlock word.now) }
+{
+    let (size, price) = read_priced(word, Mistake::NotABlock)?;
+    Ok(Block { size, price })
 }

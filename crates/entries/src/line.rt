@@ -1,54 +1,47 @@
 // A line of a network: `line 0:1000 3:-250` is bus:share pairs, shares in thousandths. Every other
 // bus has the share 0.
 
-ghost use Rattle.std.specs.Prelude.{◌≡◌, ◌≤◌, true, false, pos, negsuc, if◌then◌else◌, MatchResult, nat_lt, slice_index_or, slice_set};
+ghost use Rattle.std.specs.Prelude.{◌≡◌, ◌≤◌, pos, negsuc, if◌then◌else◌, Some, None, IsSome, MatchResult, nat_lt, slice_index_or, slice_set};
 ghost use Rattle.std.specs.Int.{int_min, int_max};
 ghost use Rattle.words.specs.declared.mistake.Mistake.TheVariants.{BusRange, RepeatedBus};
 
 use words::{Mistake, Words, read_number, read_price};
 
-// The shares so far, and which buses have been named.
+// The shares so far, at the buses that have been named.
 #[derive(Drop)]
 struct Shares {
-    at: [i16; 64],
-    named: [bool; 64],
+    at: [Option<i16>; 64],
 }
 
 pub fn read_shares(words: Words) -> Result<[i16; 64], Mistake> {
-    let mut shares = Shares {
-        at: [0; 64],
-        named: [false; 64],
-    };
-    for word in words.rest() {
+    let mut shares = Shares { at: [None; 64] };
+    for word in words {
         let (bus, share) = read_share(word)?;
         shares.name(bus, share)?;
     }
-    Ok(shares.at)
+    Ok(shares.at.map(|share| share.unwrap_or(0)))
 }
 
 impl Shares {
     // The share of one bus more, which has not been named before.
     fn name(&mut self, bus: u64, share: i16) -> Result<(), Mistake>
-        ensures after { MatchResult result (λ _. (bus ≤ 63) × (self.new.at ≡ slice_set self.old.at bus share) × (self.new.named ≡ slice_set self.old.named bus true)) (λ m. m ≡ (if nat_lt 63 bus then BusRange else RepeatedBus)) }
-        ensures named { bus ≤ 63 → MatchResult result (λ _. slice_index_or self.old.named bus false ≡ false) (λ _. slice_index_or self.old.named bus false ≡ true) }
+        ensures after { MatchResult result (λ _. (bus ≤ 63) × (self.new.at ≡ slice_set self.old.at bus (Some share))) (λ m. m ≡ (if nat_lt 63 bus then BusRange else RepeatedBus)) }
+        ensures named { bus ≤ 63 → MatchResult result (λ _. slice_index_or self.old.at bus None ≡ None) (λ _. IsSome (slice_index_or self.old.at bus None)) }
     {
         if bus > 63 {
             return Err(Mistake::BusRange);
         }
         let place = bus as usize;
-        if self.named[place] {
+        if self.at[place].is_some() {
             return Err(Mistake::RepeatedBus);
         }
-        self.at[place] = share;
-        self.named[place] = true;
+        self.at[place] = Some(share);
         Ok(())
     }
 }
 
 fn read_share(word: &str) -> Result<(u64, i16), Mistake> {
-    let Some((bus, share)) = word.split_once(':') else {
-        return Err(Mistake::NotAShare);
-    };
+    let (bus, share) = word.split_once(':').ok_or(Mistake::NotAShare)?;
     Ok((read_number(bus)?, share_of(read_price(share)?)))
 }
 

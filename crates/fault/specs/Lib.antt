@@ -1,3 +1,4 @@
 pub mod Codes
 pub mod Refusal
 pub mod First
+pub mod Rules

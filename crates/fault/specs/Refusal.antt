@@ -4,9 +4,13 @@ use Rattle.fault.specs.declared.cause.Cause.TheVariants.{ShortBuffer}
 use Rattle.fault.specs.declared.cause.Fault.{Fault}
 use Rattle.fault.specs.Codes.{number_of, layer_of, letter_of}
 
--- `refused`, the cause's number, its layer's letter and the place, with one blank between, and a newline
+-- `refused`, the cause's number, its layer's letter and the place, with one blank between
+unfoldable pub refusal_text : Fault → List ℕ
+refusal_text f = codes "refused " ++ decimal (number_of f.cause) ++ codes " " ++ (letter_of (layer_of f.cause) ∷ []) ++ codes " " ++ decimal f.place
+
+-- that, and a newline
 unfoldable pub refusal_line : Fault → List ℕ
-refusal_line f = codes "refused " ++ decimal (number_of f.cause) ++ codes " " ++ (letter_of (layer_of f.cause) ∷ []) ++ codes " " ++ decimal f.place ++ (10 ∷ [])
+refusal_line f = refusal_text f ++ (10 ∷ [])
 
 -- the answer of a call that writes the text into a buffer: its length, or a fault where the buffer is shorter
 unfoldable pub written_answer : List ℕ → List ℕ → Result ℕ Fault

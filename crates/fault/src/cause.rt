@@ -3,10 +3,10 @@
 ghost use Rattle.std.specs.Prelude.{◌≡◌, ℕ, ◌≤◌};
 ghost use Rattle.fault.specs.Codes.{number_of, layer_of, letter_of, Apart};
 
-// One for each rule by which an input is declined; docs/REFUSALS.md has them in words.
-#[derive(Clone, Copy)]
+// One for each rule by which an input is declined, in the order of their numbers; docs/REFUSALS.md has them in words.
+#[derive(Clone, Copy, Debug, Eq, PartialEq)]
 pub enum Cause {
-    OfferCap,
+    OfferCap = 1,
     RowCount,
     ClassLetter,
     BusNumber,
@@ -36,7 +36,7 @@ pub enum Cause {
 }
 
 // The part of the library whose rule was broken.
-#[derive(Clone, Copy)]
+#[derive(Clone, Copy, Debug, Eq, PartialEq)]
 pub enum Layer {
     Book,
     Network,
@@ -45,7 +45,7 @@ pub enum Layer {
 }
 
 // A cause with its place: a row, line, participant or byte.
-#[derive(Clone, Copy)]
+#[derive(Clone, Copy, Debug, Eq, PartialEq)]
 pub struct Fault {
     pub cause: Cause,
     pub place: usize,
@@ -56,35 +56,7 @@ impl Cause {
         ensures value { result ≡ number_of self }
         ensures apart { Apart }
     {
-        match self {
-            Cause::OfferCap => 1,
-            Cause::RowCount => 2,
-            Cause::ClassLetter => 3,
-            Cause::BusNumber => 4,
-            Cause::UnitLimits => 5,
-            Cause::PointCount => 6,
-            Cause::CurveLevels => 7,
-            Cause::CurvePrices => 8,
-            Cause::Reading => 9,
-            Cause::LineCount => 10,
-            Cause::ShareRange => 11,
-            Cause::Absent => 12,
-            Cause::Amount => 13,
-            Cause::StepNumber => 14,
-            Cause::ListLength => 15,
-            Cause::PriceRange => 16,
-            Cause::UnobservedPrice => 17,
-            Cause::BasePoint => 18,
-            Cause::Balance => 19,
-            Cause::FlowLimit => 20,
-            Cause::GapTolerance => 21,
-            Cause::Contents => 22,
-            Cause::FolioLength => 23,
-            Cause::Padding => 24,
-            Cause::RecordCounts => 25,
-            Cause::NotHeld => 26,
-            Cause::ShortBuffer => 27,
-        }
+        self as u8
     }
 
     pub fn layer(self) -> Layer

@@ -1,10 +1,11 @@
 // A fault as a line of text, such as `refused 19 R 0`: number, letter of the layer, place.
 
-ghost use Rattle.std.specs.Prelude.{◌≡◌};
-ghost use Rattle.fault.specs.Refusal.{refusal_line, written_answer, written_bytes};
+ghost use Rattle.std.specs.Prelude.{◌≡◌, Some};
+ghost use Rattle.fault.specs.Refusal.{refusal_line, refusal_text, written_answer, written_bytes};
 ghost use Rattle.text.specs.Lines.{text_of};
 
 use super::{Cause, Fault};
+use std::fmt;
 use text::Line;
 
 impl Fault {
@@ -26,6 +27,7 @@ impl Fault {
         }
     }
 
+    // Piece by piece: a line that is full drops what comes, and so is no writer that a format could write to.
     fn told(self) -> Line
         ensures { text_of result ≡ refusal_line self }
     {
@@ -38,5 +40,18 @@ impl Fault {
         line.put_unsigned(self.place as u64);
         line.put(b'\n');
         line
+    }
+}
+
+// The line without its newline.
+impl fmt::Display for Fault {
+    ghost output = { λ f. Some (refusal_text f) };
+
+    #[tactic(auto, unfolding(crate::specs::Refusal::refusal_text))]
+    fn fmt<W: fmt::Write>(&self, f: &mut fmt::Formatter<W>) -> fmt::Result {
+        let number = self.cause.number();
+        let letter = self.cause.layer().letter() as char;
+        let place = self.place;
+        write!(f, "refused {number} {letter} {place}")
     }
 }

@@ -1,3 +1,4 @@
+pub mod First
 pub mod Places
 pub mod Checks
 pub mod Stages

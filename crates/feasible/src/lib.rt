@@ -4,17 +4,19 @@
 mod balancing;
 mod constraints;
 mod limit;
-mod observing;
 mod outside;
 mod overload;
 mod reason;
+mod setting;
 mod stage;
+mod step;
 mod verdict;
 
-pub use balancing::{balance, balanced, due};
+pub use balancing::{balance, balanced};
 pub use constraints::Constraints;
 pub use outside::first_outside;
 pub use overload::first_overloaded;
 pub use reason::Infeasible;
 pub use stage::Stage;
+pub use step::Step;
 pub use verdict::infeasible;

@@ -12,11 +12,8 @@ use dispatch::Dispatch;
 pub fn first_outside<B: OfferBook>(book: &B, dispatch: &Dispatch) -> Option<usize>
     ensures { MatchOption result (Everywhere (B.OfferBook.meaning book.now).count (Within (B.OfferBook.meaning book.now) (base_of dispatch.now))) (FirstFailing (B.OfferBook.meaning book.now).count (Within (B.OfferBook.meaning book.now) (base_of dispatch.now))) }
 {
-    for participant in 0..book.count() {
-        let base = dispatch.base(participant);
-        if base < book.low(participant) || base > book.high(participant) {
-            return Some(participant);
-        }
-    }
-    None
+    (0..book.count()).find(|participant| {
+        let base = dispatch.base(*participant);
+        base < book.low(*participant) || base > book.high(*participant)
+    })
 }

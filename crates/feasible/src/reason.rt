@@ -1,6 +1,6 @@
 // Why a dispatch is not feasible.
 
-#[derive(Clone, Copy)]
+#[derive(Clone, Copy, Debug, Eq, PartialEq)]
 pub enum Infeasible {
     // this participant's base point lies outside its limits
     OutsideLimits(usize),

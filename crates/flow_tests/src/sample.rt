@@ -1,13 +1,15 @@
 // Small books, networks and dispatches.
 
 use dispatch::Dispatch;
+use given::Given;
 use house::HouseBook;
 use network::TableNetwork;
 use rows::{Point, Row};
 
 // A participant that may be dispatched from 0 to 20,000.
 pub(crate) fn unit(letter: char, bus: u8) -> Row {
-    let points = [Point { level: 0, price: 0 }; 10];
+    let mut points = Given::new(Point { level: 0, price: 0 });
+    points.push(Point { level: 0, price: 0 });
     Row {
         letter,
         bus,
@@ -16,7 +18,6 @@ pub(crate) fn unit(letter: char, bus: u8) -> Row {
         hdl: 20_000,
         hsl: 20_000,
         reading: 0,
-        count: 1,
         points,
     }
 }

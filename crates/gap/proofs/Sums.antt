@@ -8,6 +8,7 @@ use Rattle.network.specs.Grid.{Grid}
 use Rattle.dispatch.specs.Injected.{injected}
 use Rattle.market.specs.Market.{Step, Prices, room, slack, gap, worth}
 use Rattle.market.proofs.Certificate.{duality, exactness}
+use Rattle.feasible.proofs.Flows.{flow_same}
 use Rattle.gap.specs.Certified.{Certified}
 use Rattle.gap.specs.Slack.{slack_at, slack_up}
 
@@ -16,7 +17,7 @@ pub slacks_agree : (m : Book) (g : Grid) (s : Step) (p : Prices) (x : ℕ → �
 slacks_agree m g s p x injections e =
     sum_same g.lines (slack_at g s p injections) (slack m g s p x)
     (λ k _. ap (λ f. cond (s.observed k) (p.shadow k *ℤ (room s k -ℤ f)) (pos 0))
-    (sum_same 64 (λ b. g.share k b *ℤ injections b) (λ b. g.share k b *ℤ injected m x b) (λ b _. ap (λ z. g.share k b *ℤ z) (e b))))
+    (flow_same m g x injections e k))
 
 pub certified : (m : Book) (g : Grid) (s : Step) (p : Prices) (x : ℕ → ℕ) (z : ℤ) → Books.Lawful m → z ≡ gap m g s p x → Certified m g s p x z
 certified m g s p x z law e =

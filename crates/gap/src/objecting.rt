@@ -11,12 +11,13 @@ use dispatch::Dispatch;
 use market::{Quote, tenth_gain};
 use network::Network;
 
-#[derive(Clone, Copy)]
+#[derive(Clone, Copy, Debug, Eq, PartialEq)]
 pub struct Objections {
     pub last: bool,
     pub next: bool,
 }
 
+// The two tests differ in the limit, the tenth and the sign: one function for both would take all three.
 fn last_objects<B: OfferBook, N: Network>(
     book: &B,
     network: &N,
@@ -54,15 +55,9 @@ pub fn objection<B: OfferBook, N: Network>(
     ensures last { Decides result.last ((participant < (B.OfferBook.meaning book.now).count) × LastObjects (B.OfferBook.meaning book.now) (N.Network.meaning network.now) (prices_of quote.now) (base_of dispatch.now) participant) }
     ensures next { Decides result.next ((participant < (B.OfferBook.meaning book.now).count) × NextObjects (B.OfferBook.meaning book.now) (N.Network.meaning network.now) (prices_of quote.now) (base_of dispatch.now) participant) }
 {
-    if participant < book.count() {
-        Objections {
-            last: last_objects(book, network, quote, dispatch, participant),
-            next: next_objects(book, network, quote, dispatch, participant),
-        }
-    } else {
-        Objections {
-            last: false,
-            next: false,
-        }
+    let there = participant < book.count();
+    Objections {
+        last: there && last_objects(book, network, quote, dispatch, participant),
+        next: there && next_objects(book, network, quote, dispatch, participant),
     }
 }

@@ -4,6 +4,7 @@ use Rattle.std.proofs.lemmas.List.{get_or_past}
 use Rattle.std.proofs.lemmas.Bool.{cases_lt, cond-true, cond-false, lt-ltb, le-ltb}
 use Rattle.std.proofs.lemmas.Bool.Decides.{nat_tests}
 use Rattle.book.specs.Gathered.{within}
+use Rattle.book.specs.Sides.{sign_of}
 use Rattle.curve.specs.Complete.{row_price, price_on}
 use Rattle.rows.specs.declared.row.Row.{Row}
 use Rattle.house.specs.House.{blank, booked, nobody, unit_price, tabled}
@@ -27,7 +28,7 @@ module _ (w : ℕ) (rows : List Row) (n : ℕ) (us : List Unit) (counted : n ≡
       record {
         count = counted j;
         bus = λ i. answers (λ u. u.bus) (λ r. r.bus) 0 refl (λ u r s. s.bus_is) i j;
-        side = λ i. answers (λ u. u.side) row_side (pos 0) refl (λ u r s. s.side_is) i j;
+        side = λ i. answers (λ u. sign_of u.side) row_side (pos 0) refl (λ u r s. s.side_is) i j;
         low = λ i. answers (λ u. u.low) (λ r. r.ldl) 0 refl (λ u r s. s.low_is) i j;
         high = λ i. answers (λ u. u.high) (λ r. r.hdl) 0 refl (λ u r s. s.high_is) i j;
         reading = λ i. answers (λ u. u.reading) row_reading 0 refl (λ u r s. s.reading_is) i j;

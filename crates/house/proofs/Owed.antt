@@ -49,10 +49,6 @@ sided_moves s b x y (inr l) m =
     rw l.0 (omega (arith, ints, product_is (negsuc 0) x, product_is (negsuc 0) y))
 
 module _ (w : ℕ) (r : Row) (k : Class) (e : class_of r.letter ≡ Ok k) where
-  pub unit_sided : (side_of k *ℤ side_of k) ≡ pos 1
-  unit_sided =
-      ⊎_elim (λ g. ap (λ s. s *ℤ s) g.0) (λ l. ap (λ s. s *ℤ s) l.0) (letter_side r.letter k e)
-
   pub unit_unread : side_of k ≡ generator → row_reading r ≡ 0
   unit_unread s =
       ⊎_elim (λ g. ap (λ b. cond b r.reading 0) g.1) (λ l. absurd (omega (arith, ints, l.0))) (letter_side r.letter k e)

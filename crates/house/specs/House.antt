@@ -3,6 +3,8 @@ use Rattle.std.specs.Prelude.{ℕ, List, [], length, get_or, replicate, ℤ, pos
 use Rattle.std.proofs.Common.{lit≤}
 use Rattle.book.specs.Gathered.{Member, within, gathered}
 use Rattle.book.specs.Meaning.{Book}
+use Rattle.book.specs.Sides.{sign_of}
+use Rattle.book.specs.declared.side.Side.TheVariants.{Generator}
 use Rattle.curve.specs.Complete.{at, row_price, price_on}
 use Rattle.curve.specs.Line.{line_price}
 use Rattle.rows.specs.declared.class.Class.TheVariants.{Thermal}
@@ -13,7 +15,7 @@ use Rattle.house.specs.declared.unit.Unit.{Unit}
 
 -- no row: all its numbers are 0, and it has no class
 abbrev pub blank : Row
-blank = record { letter = 0; bus = 0; lsl = 0; ldl = 0; hdl = 0; hsl = 0; reading = 0; count = 0; points = [] }
+blank = record { letter = 0; bus = 0; lsl = 0; ldl = 0; hdl = 0; hsl = 0; reading = 0; points = record { count = 0; items = [] } }
 
 -- the offer book of rows under the offer cap w
 abbrev pub booked : ℕ → List Row → Book
@@ -34,13 +36,12 @@ unfolding line_price
 nobody =
     record {
       bus = 0;
-      side = pos 1;
+      side = Generator;
       low = 0;
       high = 0;
       reading = 0;
-      curve = record { class = Thermal; hsl = 0; points = record { items = replicate 13 (at 0 (pos 0)); count = 0; within = lit≤ tt; room = refl } };
+      curve = record { class = Thermal; hsl = 0; points = record { count = 0; items = replicate 13 (at 0 (pos 0)) } };
       there = lit≤ tt;
-      sided = refl;
       limits = lit≤ tt;
       highest = lit≤ tt;
       readings = lit≤ tt;
@@ -57,7 +58,7 @@ abbrev pub member_of : Unit → Member
 member_of u =
     record {
       bus = u.bus;
-      side = u.side;
+      side = sign_of u.side;
       low = u.low;
       high = u.high;
       reading = u.reading;
@@ -70,4 +71,4 @@ tabled n us = gathered n (λ i. member_of (slice_index_or us i nobody))
 
 -- the meaning of a house book
 abbrev pub meaning_of : HouseBook → Book
-meaning_of b = tabled b.count b.units
+meaning_of b = tabled b.units.count b.units.items

@@ -1,4 +1,5 @@
 use Rattle.book.specs.Gathered.{Fair}
+use Rattle.book.specs.Sides.{squared}
 use Rattle.house.specs.House.{member_of}
 use Rattle.house.specs.declared.unit.Unit.{Unit}
 
@@ -7,7 +8,7 @@ pub fair : (u : Unit) → Fair (member_of u)
 fair u =
     record {
       there = u.there;
-      sided = u.sided;
+      sided = squared u.side;
       limits = u.limits;
       highest = u.highest;
       readings = u.readings;

@@ -2,6 +2,7 @@
 use Rattle.std.specs.Prelude.{◌≡◌, ℕ, cond, ℤ, pos, Ok, Err, Result}
 use Rattle.fault.specs.declared.cause.Fault.{Fault}
 use Rattle.book.specs.Meaning.{generator, load}
+use Rattle.book.specs.Sides.{sign_of}
 use Rattle.curve.specs.Complete.{row_price, price_on}
 use Rattle.rows.specs.Classes.{class_of}
 use Rattle.rows.specs.Rules.{is_load}
@@ -32,7 +33,7 @@ row_reading r = cond (is_load r) r.reading 0
 -- a unit stands for a row under the offer cap w
 pub record Stands (w : ℕ) (r : Row) (u : Unit) : Type 0 where
   pub bus_is : u.bus ≡ r.bus
-  pub side_is : u.side ≡ row_side r
+  pub side_is : sign_of u.side ≡ row_side r
   pub low_is : u.low ≡ r.ldl
   pub high_is : u.high ≡ r.hdl
   pub reading_is : u.reading ≡ row_reading r

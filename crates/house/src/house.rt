@@ -1,14 +1,13 @@
 // The book itself: a table of units.
 
-ghost use Rattle.std.specs.Prelude.{◌≡◌, ◌≤◌, length};
+ghost use Rattle.std.specs.Prelude.{◌≤◌};
 
 use crate::unit::Unit;
+use given::Given;
 
 // At most 64 participants, in fixed memory.
 #[derive(Clone, Copy)]
 pub struct HouseBook {
-    pub(crate) count: usize,
-    pub(crate) units: [Unit; 64],
-    ghost few: { count ≤ 64 },
-    ghost room: { length units ≡ 64 },
+    pub(crate) units: Given<Unit, 64>,
+    ghost few: { units.count ≤ 64 },
 }

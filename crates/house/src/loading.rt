@@ -8,17 +8,18 @@ ghost use Rattle.house.specs.Unit.{Stands};
 use crate::house::HouseBook;
 use crate::unit::Unit;
 use fault::Fault;
+use given::Given;
 use rows::{OfferCap, Row, check_rows};
 
 // The units of rows that break no rule.
-fn units_of(offer_cap: OfferCap, rows: &[Row]) -> Result<[Unit; 64], Fault>
+fn units_of(offer_cap: OfferCap, rows: &[Row]) -> Result<Given<Unit, 64>, Fault>
     requires few { length rows.now ≤ 64 }
     requires lawful { (i : ℕ) (d : Row) → i < length rows.now → Lawful offer_cap.cents (slice_index_or rows.now i d) }
-    ensures { MatchResult result (λ us. (i : ℕ) → i < length rows.now → Stands offer_cap.cents (slice_index_or rows.now i blank) (slice_index_or us i nobody)) (λ _. ⊥) }
+    ensures { MatchResult result (λ us. (us.count ≡ length rows.now) × ((i : ℕ) → i < length rows.now → Stands offer_cap.cents (slice_index_or rows.now i blank) (slice_index_or us.items i nobody))) (λ _. ⊥) }
 {
-    let mut units = [Unit::nobody(); 64];
-    for (i, row) in rows.iter().enumerate() {
-        units[i] = Unit::of(offer_cap, row)?;
+    let mut units = Given::new(Unit::nobody());
+    for row in rows {
+        units.push(Unit::of(offer_cap, row)?);
     }
     Ok(units)
 }
@@ -30,9 +31,6 @@ impl HouseBook {
     {
         let offer_cap = check_rows(cents, rows)?;
         let units = units_of(offer_cap, rows)?;
-        Ok(HouseBook {
-            count: rows.len(),
-            units,
-        })
+        Ok(HouseBook { units })
     }
 }

@@ -1,22 +1,24 @@
 // Units are made from rows, and asked.
 
 ghost use Rattle.std.specs.Prelude.{◌≡◌, Ok, Err, MatchResult};
+ghost use Rattle.book.specs.Sides.{sign_of};
 ghost use Rattle.rows.specs.Rules.{Lawful};
 ghost use Rattle.rows.specs.Classes.{class_of};
 ghost use Rattle.house.specs.House.{unit_price};
 ghost use Rattle.house.specs.Unit.{Stands, side_of, row_reading};
 
 use crate::unit::Unit;
+use book::Side;
 use curve::Curve;
 use fault::Fault;
-use rows::{Class, OfferCap, Row, class_of};
+use rows::{Class, OfferCap, Row};
 
-fn side_of(class: Class) -> i8
-    ensures { result ≡ side_of class }
+fn side_of(class: Class) -> Side
+    ensures { sign_of result ≡ side_of class }
 {
     match class {
-        Class::Thermal | Class::Renewable | Class::Committed => 1,
-        Class::Load => -1,
+        Class::Thermal | Class::Renewable | Class::Committed => Side::Generator,
+        Class::Load => Side::Load,
     }
 }
 
@@ -35,7 +37,7 @@ impl Unit {
     pub(crate) fn nobody() -> Unit {
         Unit {
             bus: 0,
-            side: 1,
+            side: Side::Generator,
             low: 0,
             high: 0,
             reading: 0,
@@ -48,7 +50,7 @@ impl Unit {
         requires { Lawful offer_cap.cents row.now }
         ensures { MatchResult result (λ u. Stands offer_cap.cents row.now u) (λ _. ⊥) }
     {
-        let class = class_of(row.letter)?;
+        let class = Class::try_from(row.letter)?;
         let curve = Curve::complete(offer_cap, row)?;
         let reading = reading_of(class, row);
         Ok(Unit {
@@ -60,6 +62,7 @@ impl Unit {
             curve,
         })
     }
+
     // The price of the tenth that ends at `level`, where the unit may be dispatched.
     pub(crate) fn price(&self, level: u16) -> i32
         ensures { result ≡ unit_price self.now level }

@@ -4,16 +4,15 @@
 ghost use Rattle.std.specs.Prelude.{◌≡◌, ◌+◌, min, true, [], ◌∷◌, ◌++◌, is_some, IfErr, if◌then◌else◌, Some, None, Ok, Err, vec_len, OnOk};
 ghost use Rattle.input.specs.Booked.{has_book};
 ghost use Rattle.input.specs.declared.asked.Asked.TheVariants.{Call as Called};
-ghost use Rattle.input.specs.declared.flaw.Flaw.TheVariants.{NotText, NoBook, SecondCap, Mixed};
-ghost use Rattle.input.specs.declared.stop.Stop.TheVariants.{Malformed};
+ghost use Rattle.shell.specs.declared.flaw.Flaw.TheVariants.{NotText, NoBook, SecondCap, Mixed};
+ghost use Rattle.shell.specs.declared.stop.Stop.TheVariants.{Malformed};
 
 use crate::asked::Asked;
-use crate::flaw::Flaw;
-use crate::stop::Stop;
 use block::BlockRow;
 use calls::Call;
 use rows::Row;
 use script_runs::{Statement, read_line};
+use shell::{Flaw, Stop};
 use std::alloc::Global;
 use words::Mistake;
 
@@ -127,6 +126,7 @@ impl Input {
         Err(Stop::Malformed(self.read, flaw))
     }
 
+    // Each of the three programs holds its lines to an order of its own, so each puts a line away by itself.
     fn set_cap(&mut self, cents: u32) -> Result<(), Stop>
         ensures first { OnOk result ((self.old.cap ≡ None) × (self.new.cap ≡ Some cents)) }
         ensures again { IfErr result (λ s. s ≡ Malformed self.old.read (if is_some self.old.cap then SecondCap else Mixed)) }

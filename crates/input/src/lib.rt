@@ -2,11 +2,7 @@
 #![tactic(auto)]
 
 mod asked;
-mod flaw;
 mod input;
-mod stop;
 
 pub use asked::Asked;
-pub use flaw::Flaw;
 pub use input::Input;
-pub use stop::Stop;

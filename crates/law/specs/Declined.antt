@@ -13,7 +13,7 @@ use Rattle.book.specs.Meaning.{Book}
 use Rattle.bounded.specs.Mitigation.{in_range}
 use Rattle.network.specs.Grid.{Grid}
 use Rattle.checks.specs.Causes.{form_fault, judged_fault}
-use Rattle.checks.specs.First.{unless}
+use Rattle.feasible.specs.First.{unless}
 use Rattle.law.specs.State.{State, step_in, priced_book, stage_of}
 
 -- a requirement up to 2,000,000 and a tolerance up to 1,000,000,000,000

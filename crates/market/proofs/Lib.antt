@@ -1,5 +1,6 @@
 pub mod Certificate
-pub mod Costs
+pub mod Filled
 pub mod Fronts
 pub mod Identity
+pub mod Totals
 pub mod Walks

@@ -4,7 +4,6 @@
 mod nodal;
 mod quote;
 mod quoting;
-mod sides;
 mod valuing;
 mod walking;
 

@@ -5,15 +5,14 @@ ghost use Rattle.dispatch.specs.Base.{base_of};
 ghost use Rattle.market.specs.Laws.{Duality, Exactness};
 ghost use Rattle.market.specs.Market.{cost, worth};
 
-use crate::sides::sided;
 use book::OfferBook;
-use dispatch::Dispatch;
+use dispatch::{Dispatch, sided};
 
 // The prices of the tenths from above low up to a level.
 fn cost<B: OfferBook>(book: &B, participant: usize, level: u16) -> i64
     requires { level ≤ 20000 }
     ensures value { result ≡ cost (B.OfferBook.meaning book.now) participant level }
-    ensures least { negsuc 499999999 ≤ℤ result }
+    ensures least { negsuc 19999999999 ≤ℤ result }
     ensures most { result ≤ℤ pos 20000000000 }
 {
     let mut total = 0;

@@ -8,84 +8,90 @@ ghost use Rattle.market.specs.Walks.{Climbed, Descended, Moderate, forgone_or};
 
 use crate::nodal::lmp;
 use crate::quote::Quote;
-use crate::sides::sided;
 use book::OfferBook;
+use dispatch::sided;
 use network::Network;
 
-// What is left of a participant's price after a tenth's own.
-fn margin(lmp: i64, price: i32) -> i64
-    requires lmp { (negsuc 32999999999 ≤ℤ lmp) × (lmp ≤ℤ pos 33000000000) }
-    requires price { (negsuc 24999 ≤ℤ price) × (price ≤ℤ pos 1000000) }
-    ensures value { result ≡ lmp -ℤ (pos 1000 *ℤ price) }
-    ensures least { negsuc 33999999999 ≤ℤ result }
-    ensures most { result ≤ℤ pos 34000000000 }
-{
-    lmp - 1_000 * price as i64
+// A participant at a price of its own, in thousandths of a cent.
+#[derive(Drop)]
+struct Paid<'a, B: OfferBook> {
+    book: &'a B,
+    participant: usize,
+    lmp: i64,
+    ghost least: { negsuc 32999999999 ≤ℤ lmp },
+    ghost most: { lmp ≤ℤ pos 33000000000 },
 }
 
-// The gain of the tenth that ends at a level, at a price of the participant.
-fn gain<B: OfferBook>(book: &B, participant: usize, lmp: i64, level: u16) -> i64
-    requires { (negsuc 32999999999 ≤ℤ lmp) × (lmp ≤ℤ pos 33000000000) }
-    ensures value { result ≡ gain_at (B.OfferBook.meaning book.now) lmp participant level }
-    ensures least { negsuc 33999999999 ≤ℤ result }
-    ensures most { result ≤ℤ pos 34000000000 }
-{
-    sided(
-        book.side(participant),
-        margin(lmp, book.price(participant, level)),
-    )
-}
-
-// Up from a level while the next tenth objects: the level reached, and the gains on the way.
-fn climb<B: OfferBook>(book: &B, participant: usize, lmp: i64, from: u16) -> (u16, i64)
-    requires lmp { (negsuc 32999999999 ≤ℤ lmp) × (lmp ≤ℤ pos 33000000000) }
-    requires from { ((B.OfferBook.meaning book.now).low participant ≤ from) × (from ≤ (B.OfferBook.meaning book.now).high participant) }
-    ensures { Climbed (B.OfferBook.meaning book.now) lmp participant from result.0 result.1 }
-{
-    let mut total = 0;
-    let high = book.high(participant);
-    for level in from..high {
-        let next = gain(book, participant, lmp, level + 1);
-        if next <= 0 {
-            return (level, total);
-        }
-        total += next;
+impl<'a, B: OfferBook> Paid<'a, B> {
+    // What is left of the price after a tenth's own.
+    fn margin(&self, level: u16) -> i64
+        ensures value { result ≡ self.now.lmp -ℤ (pos 1000 *ℤ (B.OfferBook.meaning self.now.book.now).price self.now.participant level) }
+        ensures least { negsuc 33999999999 ≤ℤ result }
+        ensures most { result ≤ℤ pos 34000000000 }
+    {
+        self.lmp - 1_000 * self.book.price(self.participant, level) as i64
     }
-    (high, total)
-}
 
-// Down from a level while its last tenth objects: the level reached, and what is saved on the way.
-fn descend<B: OfferBook>(book: &B, participant: usize, lmp: i64, from: u16) -> (u16, i64)
-    requires lmp { (negsuc 32999999999 ≤ℤ lmp) × (lmp ≤ℤ pos 33000000000) }
-    requires from { ((B.OfferBook.meaning book.now).low participant ≤ from) × (from ≤ (B.OfferBook.meaning book.now).high participant) }
-    ensures { Descended (B.OfferBook.meaning book.now) lmp participant from result.0 result.1 }
-{
-    let low = book.low(participant);
-    let mut level = from;
-    let mut total = 0;
-    while level > low {
-        let last = gain(book, participant, lmp, level);
-        if last >= 0 {
-            return (level, total);
-        }
-        total -= last;
-        level -= 1;
+    // The gain of the tenth that ends at a level.
+    fn gain(&self, level: u16) -> i64
+        ensures value { result ≡ gain_at (B.OfferBook.meaning self.now.book.now) self.now.lmp self.now.participant level }
+        ensures least { negsuc 33999999999 ≤ℤ result }
+        ensures most { result ≤ℤ pos 34000000000 }
+    {
+        sided(self.book.side(self.participant), self.margin(level))
     }
-    (level, total)
+
+    // The two walks differ in their levels, in the sign and in where they end: one walk for both would take all three.
+
+    // Up from a level while the next tenth objects: the level reached, and the gains on the way.
+    fn climb(&self, from: u16) -> (u16, i64)
+        requires { ((B.OfferBook.meaning self.now.book.now).low self.now.participant ≤ from) × (from ≤ (B.OfferBook.meaning self.now.book.now).high self.now.participant) }
+        ensures { Climbed (B.OfferBook.meaning self.now.book.now) self.now.lmp self.now.participant from result.0 result.1 }
+    {
+        let mut total = 0;
+        let high = self.book.high(self.participant);
+        for level in from..high {
+            let gained = self.gain(level + 1);
+            if gained <= 0 {
+                return (level, total);
+            }
+            total += gained;
+        }
+        (high, total)
+    }
+
+    // Down from a level while its last tenth objects: the level reached, and what is saved on the way.
+    fn descend(&self, from: u16) -> (u16, i64)
+        requires { ((B.OfferBook.meaning self.now.book.now).low self.now.participant ≤ from) × (from ≤ (B.OfferBook.meaning self.now.book.now).high self.now.participant) }
+        ensures { Descended (B.OfferBook.meaning self.now.book.now) self.now.lmp self.now.participant from result.0 result.1 }
+    {
+        let mut total = 0;
+        let low = self.book.low(self.participant);
+        for level in (low..from).rev() {
+            let saved = -self.gain(level + 1);
+            if saved <= 0 {
+                return (level + 1, total);
+            }
+            total += saved;
+        }
+        (low, total)
+    }
+
+    // What the participant forgoes at a level.
+    fn forgone(&self, base: u16) -> i64
+        requires there { self.now.participant < (B.OfferBook.meaning self.now.book.now).count }
+        requires base { ((B.OfferBook.meaning self.now.book.now).low self.now.participant ≤ base) × (base ≤ (B.OfferBook.meaning self.now.book.now).high self.now.participant) }
+        ensures value { result ≡ forgone_at (B.OfferBook.meaning self.now.book.now) self.now.lmp self.now.participant base }
+        ensures range { Moderate result }
+    {
+        let (top, climbed) = self.climb(base);
+        let (_, saved) = self.descend(top);
+        climbed + saved
+    }
 }
 
-// What a participant forgoes at a level, at a price.
-fn forgone_at<B: OfferBook>(book: &B, participant: usize, lmp: i64, base: u16) -> i64
-    requires lmp { (negsuc 32999999999 ≤ℤ lmp) × (lmp ≤ℤ pos 33000000000) }
-    requires there { participant < (B.OfferBook.meaning book.now).count }
-    requires base { ((B.OfferBook.meaning book.now).low participant ≤ base) × (base ≤ (B.OfferBook.meaning book.now).high participant) }
-    ensures value { result ≡ forgone_at (B.OfferBook.meaning book.now) lmp participant base }
-    ensures range { Moderate result }
-{
-    let (top, climbed) = climb(book, participant, lmp, base);
-    let (_, saved) = descend(book, participant, lmp, top);
-    climbed + saved
-}
+// `book` and `network` stay two parameters here and in the crates above: each clause speaks of one meaning or of both,
+// and a struct of two references would make every clause longer (`with.now.book.now` for `book.now`).
 
 // The forgone gain of a participant at a base point, in millionths of a dollar per hour: the greatest sum of gains up
 // to any level within its limits, less that up to the base point. None where there is no such participant, or the
@@ -105,7 +111,12 @@ pub fn forgone<B: OfferBook, N: Network>(
         && base <= book.high(participant)
     {
         let price = lmp(book, network, quote, participant);
-        Some(forgone_at(book, participant, price, base))
+        let paid = Paid {
+            book,
+            participant,
+            lmp: price,
+        };
+        Some(paid.forgone(base))
     } else {
         None
     }
@@ -121,10 +132,10 @@ pub fn tenth_gain<B: OfferBook, N: Network>(
 ) -> i64
     ensures { result ≡ gain (B.OfferBook.meaning book.now) (N.Network.meaning network.now) (prices_of quote.now) participant level }
 {
-    gain(
+    let paid = Paid {
         book,
         participant,
-        lmp(book, network, quote, participant),
-        level,
-    )
+        lmp: lmp(book, network, quote, participant),
+    };
+    paid.gain(level)
 }

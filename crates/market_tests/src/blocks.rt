@@ -3,36 +3,32 @@
 use block::{Block, BlockBook, BlockRow};
 use dispatch::Dispatch;
 use fault::Fault;
-use feasible::{Constraints, Stage};
+use feasible::{Constraints, Stage, Step};
 use gap::{gap, objection};
+use given::Given;
 use market::{Quote, worth};
 use network::TableNetwork;
 use std::test::Fail;
 
 fn book() -> Result<BlockBook, Fault> {
-    let mut blocks = [Block { size: 0, price: 0 }; 10];
-    blocks[0] = Block {
+    let mut blocks = Given::new(Block { size: 0, price: 0 });
+    let mut single = blocks;
+    blocks.push(Block {
         size: 100,
         price: 2_000,
-    };
-    blocks[1] = Block {
+    });
+    blocks.push(Block {
         size: 50,
         price: 3_000,
-    };
-    let mut single = [Block { size: 0, price: 0 }; 10];
-    single[0] = Block {
+    });
+    single.push(Block {
         size: 80,
         price: 2_500,
-    };
+    });
     BlockBook::load(&[
-        BlockRow {
-            bus: 0,
-            count: 2,
-            blocks,
-        },
+        BlockRow { bus: 0, blocks },
         BlockRow {
             bus: 1,
-            count: 1,
             blocks: single,
         },
     ])
@@ -48,14 +44,11 @@ fn weighed(system: i32) -> Option<(i64, bool)> {
     };
     let quote = Quote::new(system, &[])?;
     let dispatch = Dispatch::new(&[120, 80])?;
-    let gap = gap(
-        &book,
-        &network,
-        &Constraints::new(),
-        Stage::First,
-        &quote,
-        &dispatch,
-    )?;
+    let step = Step {
+        constraints: Constraints::new(),
+        stage: Stage::First,
+    };
+    let gap = gap(&book, &network, &step, &quote, &dispatch)?;
     Some((gap, objection(&book, &network, &quote, &dispatch, 0).last))
 }
 

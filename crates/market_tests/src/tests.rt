@@ -2,16 +2,16 @@
 
 use dispatch::Dispatch;
 use fault::Fault;
-use feasible::{Constraints, Infeasible, Stage, infeasible};
+use feasible::{Constraints, Infeasible, Stage, Step, infeasible};
 use gap::{gap, objection};
+use given::Given;
 use house::HouseBook;
 use market::{Quote, forgone, lmp, tenth_gain, worth};
 use network::TableNetwork;
 use rows::{Point, Row};
 use std::test::Fail;
 
-const NONE: Point = Point { level: 0, price: 0 };
-
+// This market stands again in the tests of runs: a crate for both would be public functions without a promise.
 fn unit(letter: char, bus: u8, lsl: u16, hsl: u16) -> Row {
     Row {
         letter,
@@ -21,22 +21,20 @@ fn unit(letter: char, bus: u8, lsl: u16, hsl: u16) -> Row {
         hdl: hsl,
         hsl,
         reading: 0,
-        count: 0,
-        points: [NONE; 10],
+        points: Given::new(Point { level: 0, price: 0 }),
     }
 }
 
 fn book() -> Result<HouseBook, Fault> {
     let mut thermal = unit('N', 0, 100, 300);
-    thermal.count = 2;
-    thermal.points[0] = Point {
+    thermal.points.push(Point {
         level: 100,
         price: 2_000,
-    };
-    thermal.points[1] = Point {
+    });
+    thermal.points.push(Point {
         level: 300,
         price: 4_000,
-    };
+    });
     HouseBook::load(500_000, &[thermal, unit('R', 1, 0, 200)])
 }
 
@@ -114,11 +112,11 @@ fn quotes_in_range(rt: HostRuntime) {
     assert!(rt; Quote::new(0, &[0; 33]).is_none());
 }
 
-fn constraints() -> Constraints {
+fn step(stage: Stage) -> Option<Step> {
     let mut constraints = Constraints::new();
-    let _ = constraints.require(250);
-    let _ = constraints.limit(0, 200, false);
-    constraints
+    constraints.require(250).ok()?;
+    constraints.limit(0, 200, false).ok()?;
+    Some(Step { constraints, stage })
 }
 
 fn gap_at(stage: Stage, system: i32, shadow: u32, base: [u16; 2]) -> Option<i64> {
@@ -126,7 +124,7 @@ fn gap_at(stage: Stage, system: i32, shadow: u32, base: [u16; 2]) -> Option<i64>
     let network = network().ok()?;
     let quote = Quote::new(system, &[shadow])?;
     let dispatch = Dispatch::new(&base)?;
-    gap(&book, &network, &constraints(), stage, &quote, &dispatch)
+    gap(&book, &network, &step(stage)?, &quote, &dispatch)
 }
 
 #[test]
@@ -139,44 +137,60 @@ fn gaps(rt: HostRuntime) {
     assert_eq!(rt; gap_at(Stage::First, 3_500, 0, [99, 151]), None);
 }
 
-fn why(stage: Stage, base: [u16; 2]) -> Option<Infeasible> {
+fn why(stage: Stage, base: [u16; 2]) -> Option<Result<(), Infeasible>> {
     let book = book().ok()?;
     let network = network().ok()?;
     let dispatch = Dispatch::new(&base)?;
-    infeasible(&book, &network, &dispatch, &constraints(), stage)
+    Some(infeasible(&book, &network, &dispatch, &step(stage)?))
 }
 
 #[test]
-fn reasons_in_order(rt: HostRuntime) -> Result<(), Fail> {
-    assert!(rt; why(Stage::First, [250, 0]).is_none());
-    let Some(Infeasible::OutsideLimits(unit)) = why(Stage::Second, [250, 201]) else {
-        return Err(declined());
-    };
-    assert_eq!(rt; unit, 1);
-    let Some(Infeasible::OutOfBalance) = why(Stage::Second, [250, 1]) else {
-        return Err(declined());
-    };
-    let Some(Infeasible::Overloaded(line)) = why(Stage::Second, [250, 0]) else {
-        return Err(declined());
-    };
-    assert_eq!(rt; line, 0);
-    assert!(rt; why(Stage::Second, [200, 50]).is_none());
-    Ok(())
+fn reasons_in_order(rt: HostRuntime) {
+    assert_eq!(rt; why(Stage::First, [250, 0]), Some(Ok(())));
+    assert_eq!(rt;
+        why(Stage::Second, [250, 201]),
+        Some(Err(Infeasible::OutsideLimits(1)))
+    );
+    assert_eq!(rt;
+        why(Stage::Second, [250, 1]),
+        Some(Err(Infeasible::OutOfBalance))
+    );
+    assert_eq!(rt;
+        why(Stage::Second, [250, 0]),
+        Some(Err(Infeasible::Overloaded(0)))
+    );
+    assert_eq!(rt; why(Stage::Second, [200, 50]), Some(Ok(())));
 }
 
 #[test]
 fn constraints_in_range(rt: HostRuntime) {
     let mut constraints = Constraints::new();
-    assert!(rt; constraints.require(2_000_000));
-    assert!(rt; !constraints.require(2_000_001));
-    assert!(rt; constraints.limit(31, 0, false));
-    assert!(rt; !constraints.limit(32, 0, false));
-    assert!(rt; !constraints.limit(0, 1_000_001, false));
-    assert!(rt; constraints.observes(Stage::First, 0));
-    assert!(rt; !constraints.observes(Stage::First, 31));
-    assert!(rt; constraints.observes(Stage::Second, 31));
-    assert_eq!(rt; constraints.room(0), 1_000_000_000);
-    assert_eq!(rt; constraints.room(31), 0);
+    assert!(rt; constraints.require(2_000_000).is_ok());
+    assert!(rt; constraints.require(2_000_001).is_err());
+    assert!(rt; constraints.limit(31, 0, false).is_ok());
+    assert!(rt; constraints.limit(32, 0, false).is_err());
+    assert!(rt; constraints.limit(0, 1_000_001, false).is_err());
+    let first = Step {
+        constraints,
+        stage: Stage::First,
+    };
+    let second = Step {
+        constraints,
+        stage: Stage::Second,
+    };
+    assert!(rt; first.observes(0));
+    assert!(rt; !first.observes(31));
+    assert!(rt; second.observes(31));
+    assert_eq!(rt; first.room(0), 1_000_000_000);
+    assert_eq!(rt; first.room(31), 0);
+}
+
+#[test]
+fn steps_by_number(rt: HostRuntime) {
+    assert_eq!(rt; Stage::try_from(1).ok(), Some(Stage::First));
+    assert_eq!(rt; Stage::try_from(2).ok(), Some(Stage::Second));
+    assert_eq!(rt; Stage::try_from(0).ok(), None);
+    assert_eq!(rt; Stage::try_from(3).ok(), None);
 }
 
 // Whether the last and the next tenth of a participant object.

@@ -22,8 +22,7 @@ row_of prices i =
       hdl = 20000;
       hsl = 20000;
       reading = 0;
-      count = 10;
-      points = points_of prices i;
+      points = record { count = 10; items = points_of prices i };
     }
 
 abbrev pub rows_of : List ℤ → List Row

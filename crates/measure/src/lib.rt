@@ -3,7 +3,6 @@
 
 mod lines;
 mod offers;
-mod reading;
 mod widest;
 
 pub use widest::{widest_gap, widest_worth};

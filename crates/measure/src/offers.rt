@@ -3,46 +3,43 @@
 ghost use Rattle.std.specs.Prelude.{◌≡◌, ◌<◌};
 ghost use Rattle.measure.specs.Widest.{point_of, points_of, row_of, rows_of};
 
-use crate::reading::read;
+use given::Given;
 use rows::{Point, Row};
+use std::array;
 
 // The point at a place of a participant.
-fn point(prices: &[i32], participant: u8, place: u16) -> Point
+fn point(prices: &[i32], participant: usize, place: usize) -> Point
     requires there { participant < 64 }
     requires few { place < 10 }
     ensures { result ≡ point_of prices.now participant place }
 {
     Point {
-        level: 1_900 * (place + 1),
-        price: read(prices, 10 * participant as usize + place as usize, 0),
+        level: 1_900 * (place as u16 + 1),
+        price: prices.get(10 * participant + place).copied().unwrap_or(0),
     }
 }
 
-fn points(prices: &[i32], participant: u8) -> [Point; 10]
+fn points(prices: &[i32], participant: usize) -> [Point; 10]
     requires { participant < 64 }
     ensures { result ≡ points_of prices.now participant }
 {
-    let mut points = [Point { level: 0, price: 0 }; 10];
-    for place in 0..10 {
-        points[place as usize] = point(prices, participant, place);
-    }
-    points
+    array::from_fn(|place| point(prices, participant, place))
 }
 
-fn row(prices: &[i32], participant: u8) -> Row
+fn row(prices: &[i32], participant: usize) -> Row
     requires { participant < 64 }
     ensures { result ≡ row_of prices.now participant }
 {
+    let items = points(prices, participant);
     Row {
         letter: 'N',
-        bus: participant,
+        bus: participant as u8,
         lsl: 0,
         ldl: 0,
         hdl: 20_000,
         hsl: 20_000,
         reading: 0,
-        count: 10,
-        points: points(prices, participant),
+        points: Given { count: 10, items },
     }
 }
 
@@ -50,9 +47,5 @@ fn row(prices: &[i32], participant: u8) -> Row
 pub(crate) fn rows_of(prices: &[i32]) -> [Row; 64]
     ensures { result ≡ rows_of prices.now }
 {
-    let mut rows = [row(prices, 0); 64];
-    for participant in 0..64 {
-        rows[participant as usize] = row(prices, participant);
-    }
-    rows
+    array::from_fn(|participant| row(prices, participant))
 }

@@ -10,7 +10,7 @@ ghost use Rattle.measure.specs.Widest.{rows_of, lines_of};
 use crate::lines::lines_of;
 use crate::offers::rows_of;
 use dispatch::Dispatch;
-use feasible::{Constraints, Stage};
+use feasible::{Constraints, Stage, Step};
 use gap::gap;
 use house::HouseBook;
 use market::{Quote, worth};
@@ -39,14 +39,11 @@ fn judge(prices: &[i32], shares: &[i16], system: i32, shadow: &[u32], base: &[u1
     let network = network_of(shares)?;
     let quote = Quote::new(system, shadow)?;
     let dispatch = Dispatch::new(base)?;
-    gap(
-        &book,
-        &network,
-        &Constraints::new(),
-        Stage::Second,
-        &quote,
-        &dispatch,
-    )
+    let step = Step {
+        constraints: Constraints::new(),
+        stage: Stage::Second,
+    };
+    gap(&book, &network, &step, &quote, &dispatch)
 }
 
 fn value(prices: &[i32], base: &[u16]) -> Option<i64>
@@ -56,6 +53,8 @@ fn value(prices: &[i32], base: &[u16]) -> Option<i64>
     let dispatch = Dispatch::new(base)?;
     Some(worth(&book, &dispatch))
 }
+
+// A `bool` and a place for the answer, since the C interface needs them: C has no `Option`.
 
 // Writes the gap of base points in the widest market at these prices and shares; no, and nothing is written, where
 // some number is out of range.

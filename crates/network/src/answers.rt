@@ -1,8 +1,7 @@
 // The table network answers the questions of a network.
 
 ghost use Rattle.network.specs.Table.{meaning_of};
-ghost use Rattle.network.specs.Ranged.{tabled_lawful};
-ghost use Rattle.std.proofs.Common.{rules, arith};
+ghost use Rattle.network.specs.Ranged.{network_lawful};
 
 use crate::injections::Injections;
 use crate::network::Network;
@@ -11,31 +10,25 @@ use crate::table::TableNetwork;
 impl Network for TableNetwork {
     ghost meaning = { meaning_of };
 
-    ghost lawful = { λ t. tabled_lawful t.count t.rows t.few };
+    ghost lawful = { network_lawful };
 
-    ghost few = { first_of (Prim.search rules, Prim.grind (arith, Self.row.coded.inj)) };
+    ghost few = { λ t. (network_lawful t).few };
 
-    ghost least = { first_of (Prim.search rules, Prim.grind (arith, Self.row.coded.inj)) };
+    ghost least = { λ t. (network_lawful t).least };
 
-    ghost most = { first_of (Prim.search rules, Prim.grind (arith, Self.row.coded.inj)) };
+    ghost most = { λ t. (network_lawful t).most };
 
     fn lines(&self) -> usize {
-        self.count
+        self.rows.as_slice().len()
     }
 
     fn share(&self, line: usize, bus: usize) -> i16 {
-        if line < self.count {
-            self.rows[line].share(bus)
-        } else {
-            0
-        }
+        self.rows.get(line).map_or(0, |shares| shares.share(bus))
     }
 
     fn flow(&self, line: usize, injections: &Injections) -> i64 {
-        if line < self.count {
-            self.rows[line].flow(injections)
-        } else {
-            0
-        }
+        self.rows
+            .get(line)
+            .map_or(0, |shares| shares.flow(injections))
     }
 }

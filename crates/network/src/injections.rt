@@ -11,3 +11,7 @@ pub struct Injections {
     ghost least: { ((b : ℕ) → negsuc 1279999 ≤ℤ slice_index_or at b (pos 0)) },
     ghost most: { ((b : ℕ) → slice_index_or at b (pos 0) ≤ℤ pos 1280000) },
 }
+
+// No bus of a sheet, or an amount that a sheet cannot hold.
+#[derive(Clone, Copy, Debug, Eq, PartialEq)]
+pub struct NotHeld;

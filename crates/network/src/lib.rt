@@ -10,6 +10,6 @@ mod shares;
 mod sheet;
 mod table;
 
-pub use injections::Injections;
+pub use injections::{Injections, NotHeld};
 pub use network::Network;
 pub use table::TableNetwork;

@@ -1,21 +1,18 @@
 // A table network is loaded from rows of 64 shares.
 
-ghost use Rattle.std.specs.Prelude.{◌≡◌, ℕ, ◌<◌, ◌≤◌, true, false, [], length, get_or, Some, None, MatchOption, MatchResult, slice_index_or};
-ghost use Rattle.network.specs.Table.{ranged, range_fault, network_fault, grid_of, meaning_of, no_shares};
+ghost use Rattle.std.specs.Prelude.{◌≡◌, ◌≤◌, true, false, length, map, Some, None, MatchOption, MatchResult};
+ghost use Rattle.given.specs.Kept.{kept};
+ghost use Rattle.network.specs.Table.{ranged, range_fault, network_fault, grid_of, meaning_of};
 
 use crate::shares::Shares;
 use crate::table::TableNetwork;
 use fault::{Cause, Fault};
+use given::Given;
 
 fn in_range(shares: &[i16]) -> bool
     ensures { result ≡ ranged shares.now }
 {
-    for share in shares {
-        if *share < -1_000 || *share > 1_000 {
-            return false;
-        }
-    }
-    true
+    shares.iter().all(|share| (-1_000..=1_000).contains(share))
 }
 
 impl Shares {
@@ -37,19 +34,13 @@ impl Shares {
 }
 
 // Each line's shares, or the first line with a share out of range.
-fn table_of(rows: &[[i16; 64]]) -> Result<[Shares; 32], Fault>
+fn table_of(rows: &[[i16; 64]]) -> Result<Given<Shares, 32>, Fault>
     requires { length rows.now ≤ 32 }
-    ensures { MatchResult result (λ t. (range_fault 0 rows.now ≡ None) × ((k : ℕ) → k < length rows.now → (get_or t k no_shares).at ≡ slice_index_or rows.now k [])) (λ f. range_fault 0 rows.now ≡ Some f) }
+    ensures { MatchResult result (λ t. (range_fault 0 rows.now ≡ None) × (t.count ≡ length rows.now) × (map (λ s. s.at) (kept t.count t.items) ≡ rows.now)) (λ f. range_fault 0 rows.now ≡ Some f) }
 {
-    let mut table = [Shares::none(); 32];
+    let mut table = Given::new(Shares::none());
     for (place, row) in rows.iter().enumerate() {
-        let Some(shares) = Shares::new(*row) else {
-            return Err(Fault {
-                cause: Cause::ShareRange,
-                place,
-            });
-        };
-        table[place] = shares;
+        table.push(Shares::new(*row).ok_or(Fault::new(Cause::ShareRange, place))?);
     }
     Ok(table)
 }
@@ -60,15 +51,10 @@ impl TableNetwork {
         ensures { MatchResult result (λ t. (network_fault rows.now ≡ None) × (meaning_of t ≡ grid_of rows.now)) (λ f. network_fault rows.now ≡ Some f) }
     {
         if rows.len() > 32 {
-            return Err(Fault {
-                cause: Cause::LineCount,
-                place: 0,
-            });
+            return Err(Fault::new(Cause::LineCount, 0));
         }
-        let table = table_of(rows)?;
         Ok(TableNetwork {
-            count: rows.len(),
-            rows: table,
+            rows: table_of(rows)?,
         })
     }
 }

@@ -1,9 +1,9 @@
 // A sheet is made empty, filled bus by bus, and read.
 
-ghost use Rattle.std.specs.Prelude.{◌≡◌, ℕ, ◌&&◌, pos, if◌then◌else◌, ◌==◌};
+ghost use Rattle.std.specs.Prelude.{◌≡◌, ℕ, ◌&&◌, pos, is_ok, if◌then◌else◌, ◌==◌};
 ghost use Rattle.network.specs.Sheet.{sheet_of, holds};
 
-use crate::injections::Injections;
+use crate::injections::{Injections, NotHeld};
 
 impl Injections {
     // No injection at any bus.
@@ -17,18 +17,18 @@ impl Injections {
     pub fn at(&self, bus: usize) -> i32
         ensures { result ≡ sheet_of self.now bus }
     {
-        if bus < 64 { self.at[bus] } else { 0 }
+        self.at.get(bus).copied().unwrap_or(0)
     }
 
-    // Another injection at a bus. False, and nothing changed, where there is no such bus or a sheet cannot hold the amount.
-    pub fn put(&mut self, bus: usize, amount: i32) -> bool
-        ensures value { result ≡ holds bus amount }
+    // Another injection at a bus, unless there is no such bus or a sheet cannot hold the amount: then nothing changes.
+    pub fn put(&mut self, bus: usize, amount: i32) -> Result<(), NotHeld>
+        ensures value { is_ok result ≡ holds bus amount }
         ensures after { (b : ℕ) → sheet_of self.new b ≡ (if holds bus amount && b == bus then amount else sheet_of self.old b) }
     {
-        if bus >= 64 || amount < -1_280_000 || amount > 1_280_000 {
-            return false;
+        if bus >= 64 || !(-1_280_000..=1_280_000).contains(&amount) {
+            return Err(NotHeld);
         }
         self.at[bus] = amount;
-        true
+        Ok(())
     }
 }

@@ -1,13 +1,12 @@
 // The table network: at most 32 lines in fixed memory.
 
-ghost use Rattle.std.specs.Prelude.{◌≡◌, ◌≤◌, length};
+ghost use Rattle.std.specs.Prelude.{◌≤◌};
 
 use crate::shares::Shares;
+use given::Given;
 
 #[derive(Clone, Copy)]
 pub struct TableNetwork {
-    pub(crate) count: usize,
-    pub(crate) rows: [Shares; 32],
-    ghost few: { count ≤ 32 },
-    ghost room: { length rows ≡ 32 },
+    pub(crate) rows: Given<Shares, 32>,
+    ghost few: { rows.count ≤ 32 },
 }

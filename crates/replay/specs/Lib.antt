@@ -1,3 +1,1 @@
-pub mod Flaws
-pub mod Base
 pub mod Loaded

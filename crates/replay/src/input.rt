@@ -3,15 +3,19 @@
 
 ghost use Rattle.std.specs.Prelude.{◌≡◌, ℕ, [], ◌∷◌, ◌++◌, IfOk, IfErr, Some, None, Ok, vec_len, OnOk};
 ghost use Rattle.replay.specs.Loaded.{Loaded};
-ghost use Rattle.replay.specs.declared.stop.Flaw.TheVariants.{SecondCap};
-ghost use Rattle.replay.specs.declared.stop.Stop.TheVariants.{Malformed};
+ghost use Rattle.shell.specs.declared.flaw.Flaw.TheVariants.{SecondCap};
+ghost use Rattle.shell.specs.declared.stop.Stop.TheVariants.{Malformed};
 
-use crate::market::Market;
-use crate::stop::{Flaw, Stop};
+use crate::loading::Market;
+use calls::BasePoints;
 use rows::Row;
-use script::{BasePoints, Mistake, Statement, read_line};
+use script::{Statement, read_line};
+use shell::{Flaw, Stop};
 use std::alloc::Global;
+use words::Mistake;
 
+// Each program keeps an input of its own: each closes its lists by another rule, and one for all would be no plainer,
+// since it would be told which.
 #[derive(Drop)]
 pub(crate) struct Input {
     // how many lines of the script were read
@@ -40,25 +44,17 @@ impl Input {
     pub(crate) fn read(&mut self, line: &str) -> Result<Option<BasePoints>, Stop> {
         self.read = self.read.saturating_add(1);
         match read_line(line) {
-            Ok(Statement::Blank) => Ok(None),
-            Ok(Statement::Cap(cents)) => {
-                self.set_cap(cents)?;
-                Ok(None)
+            Ok(Statement::Blank) => {}
+            Ok(Statement::Cap(cents)) => self.set_cap(cents)?,
+            Ok(Statement::Row(row)) => self.add_row(row)?,
+            Ok(Statement::Line(shares)) => self.add_line(shares)?,
+            Ok(Statement::Base(base)) => return Ok(Some(base)),
+            Ok(Statement::Block(_) | Statement::Term(_) | Statement::Reference(_)) => {
+                return Err(self.malformed(Flaw::Form(Mistake::UnknownWord)));
             }
-            Ok(Statement::Row(row)) => {
-                self.add_row(row)?;
-                Ok(None)
-            }
-            Ok(Statement::Line(shares)) => {
-                self.add_line(shares)?;
-                Ok(None)
-            }
-            Ok(Statement::Base(base)) => Ok(Some(base)),
-            Ok(Statement::Block(_)) | Ok(Statement::Term(_)) | Ok(Statement::Reference(_)) => {
-                Err(self.malformed(Flaw::Form(Mistake::UnknownWord)))
-            }
-            Err(mistake) => Err(self.malformed(Flaw::Form(mistake))),
+            Err(mistake) => return Err(self.malformed(Flaw::Form(mistake))),
         }
+        Ok(None)
     }
 
     // The next line holds bytes that are no text.
@@ -89,6 +85,7 @@ impl Input {
         Stop::Malformed(self.read, flaw)
     }
 
+    // Each of the three programs holds its lines to an order of its own, so each puts a line away by itself.
     fn set_cap(&mut self, cents: u32) -> Result<(), Stop>
         ensures first { OnOk result ((self.old.cap ≡ None) × (self.new.cap ≡ Some cents)) }
         ensures again { IfErr result (λ s. s ≡ Malformed self.old.read SecondCap) }
@@ -107,7 +104,7 @@ impl Input {
             return Err(self.malformed(Flaw::NoCap));
         }
         if !self.shares.is_empty() || self.market.is_some() {
-            return Err(self.malformed(Flaw::LateRow));
+            return Err(self.malformed(Flaw::RowAfterLines));
         }
         self.rows.push(row)?;
         Ok(())
@@ -120,7 +117,7 @@ impl Input {
             return Err(self.malformed(Flaw::NoCap));
         }
         if self.market.is_some() {
-            return Err(self.malformed(Flaw::LateLine));
+            return Err(self.malformed(Flaw::LineAfterBase));
         }
         self.shares.push(shares)?;
         Ok(())

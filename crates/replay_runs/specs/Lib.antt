@@ -1,4 +1,3 @@
-pub mod Staging
 pub mod Weighing
 pub mod Listing
 pub mod Objecting

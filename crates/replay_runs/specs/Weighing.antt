@@ -5,11 +5,11 @@ use Rattle.fault.specs.declared.cause.Fault.{Fault}
 use Rattle.calls.specs.declared.call.Proposal.{Proposal}
 use Rattle.book.specs.Meaning.{Book}
 use Rattle.network.specs.Grid.{Grid}
+use Rattle.feasible.specs.First.{fault}
 use Rattle.feasible.specs.Stages.{step_of}
 use Rattle.feasible.specs.declared.constraints.Constraints.{Constraints}
 use Rattle.feasible.specs.declared.stage.Stage.{Stage}
 use Rattle.checks.specs.Causes.{examined_fault}
-use Rattle.checks.specs.First.{fault}
 use Rattle.checks.specs.Proposed.{held_of, weighed}
 use Rattle.checks.specs.declared.held.Held.{Held}
 

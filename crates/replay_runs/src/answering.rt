@@ -2,7 +2,6 @@
 
 use crate::looking::look_up;
 use crate::playing::{answer_at, answers_of, run_after};
-use crate::printing::{print_answer, print_flows, print_refusal};
 use crate::stepping::{print_listed, print_weighed};
 use crate::weighing::weigh;
 use book::OfferBook;
@@ -11,6 +10,7 @@ use checks::dispatch_at;
 use fault::Fault;
 use input::Asked;
 use network::Network;
+use shell::{print_flows, print_refusal};
 use std::io;
 
 pub(crate) fn carry_out<B: OfferBook + Copy, N: Network + Copy>(
@@ -57,5 +57,13 @@ fn answer<B: OfferBook + Copy, N: Network + Copy>(
             Ok(dispatch) => print_flows(rt, book, network, &dispatch),
             Err(fault) => print_refusal(rt, fault),
         },
+    }
+}
+
+// What is said of a call.
+fn print_answer(rt: &HostRuntime, answer: Option<Fault>) -> io::Result<()> {
+    match answer {
+        None => println!(rt; "ok"),
+        Some(fault) => print_refusal(rt, fault),
     }
 }

@@ -2,13 +2,12 @@
 
 ghost use Rattle.std.specs.Prelude.{◌≡◌, Some, MatchOption, MatchResult};
 ghost use Rattle.fault.specs.declared.cause.Cause.TheVariants.{NotHeld};
-ghost use Rattle.checks.specs.First.{fault};
+ghost use Rattle.feasible.specs.First.{fault};
+ghost use Rattle.feasible.specs.Stages.{stage_named};
 ghost use Rattle.run.specs.View.{state_of};
 ghost use Rattle.replay_runs.specs.Listing.{Lists, Unlisted};
-ghost use Rattle.replay_runs.specs.Staging.{stage_of};
 
 use crate::listing::Listed;
-use crate::staging::stage_of;
 use book::OfferBook;
 use fault::{Cause, Fault};
 use feasible::Stage;
@@ -19,13 +18,10 @@ use run::Run;
 fn held_as<B: OfferBook, N: Network>(run: &mut Run<B, N>, stage: Stage) -> Option<Listed>
     ensures { MatchOption result (Unlisted (state_of run.old) (Some stage)) (Lists (B.OfferBook.meaning run.old.book.book) (N.Network.meaning run.old.network) (state_of run.old) (Some stage)) }
 {
-    match run.held(stage) {
-        Some(held) => match run.worth(stage) {
-            Some(worth) => Some(Listed { held, worth }),
-            None => None,
-        },
-        None => None,
-    }
+    Some(Listed {
+        held: run.held(stage)?,
+        worth: run.worth(stage)?,
+    })
 }
 
 // What is held as the step of this number, or number 26 where nothing is.
@@ -33,19 +29,10 @@ pub(crate) fn look_up<B: OfferBook, N: Network>(
     run: &mut Run<B, N>,
     step: u8,
 ) -> Result<Listed, Fault>
-    ensures { MatchResult result (Lists (B.OfferBook.meaning run.old.book.book) (N.Network.meaning run.old.network) (state_of run.old) (stage_of step)) (λ f. (f ≡ fault NotHeld 0) × Unlisted (state_of run.old) (stage_of step)) }
+    ensures { MatchResult result (Lists (B.OfferBook.meaning run.old.book.book) (N.Network.meaning run.old.network) (state_of run.old) (stage_named step)) (λ f. (f ≡ fault NotHeld 0) × Unlisted (state_of run.old) (stage_named step)) }
 {
-    let Some(stage) = stage_of(step) else {
-        return Err(Fault {
-            cause: Cause::NotHeld,
-            place: 0,
-        });
-    };
-    match held_as(run, stage) {
-        Some(listed) => Ok(listed),
-        None => Err(Fault {
-            cause: Cause::NotHeld,
-            place: 0,
-        }),
-    }
+    Stage::try_from(step)
+        .ok()
+        .and_then(|stage| held_as(run, stage))
+        .ok_or(Fault::new(Cause::NotHeld, 0))
 }

@@ -7,27 +7,19 @@ mod listing;
 mod looking;
 mod objecting;
 mod playing;
-mod printing;
-mod staging;
 mod stepping;
 mod weighing;
 
 use answering::carry_out;
 use block::BlockBook;
 use house::HouseBook;
-use input::{Input, Stop};
+use input::Input;
 use network::{Network, TableNetwork};
-use printing::{print_error, print_refusal};
+use shell::{Stop, print_end, read_lines};
 use std::io;
-use std::io::{BufRead, BufReader, ErrorKind};
 
 fn main(rt: HostRuntime) -> io::Result<()> {
-    match run(&rt) {
-        Ok(()) => Ok(()),
-        Err(Stop::Malformed(line, flaw)) => print_error(&rt, line, flaw),
-        Err(Stop::Refused(fault)) => print_refusal(&rt, fault),
-        Err(Stop::Failed(error)) => Err(error),
-    }
+    print_end(&rt, run(&rt))
 }
 
 // What stands before a malformed line is still carried out.
@@ -39,14 +31,10 @@ fn run(rt: &HostRuntime) -> Result<(), Stop> {
 }
 
 fn read_all(rt: &HostRuntime, input: &mut Input) -> Result<(), Stop> {
-    let heap = rt.alloc();
-    for line in BufReader::new(heap, rt.stdin())?.lines(heap) {
-        match line {
-            Ok(text) => input.read(text.as_str())?,
-            Err(error) if error.kind() == ErrorKind::InvalidData => return Err(input.not_text()),
-            Err(error) => return Err(error.into()),
-        }
-    }
+    read_lines(rt, |line| match line {
+        Some(text) => input.read(text),
+        None => Err(input.not_text()),
+    })?;
     input.check_book()
 }
 

@@ -30,22 +30,14 @@ pub(crate) fn answers_of<B: OfferBook + Copy, N: Network + Copy>(
 pub(crate) fn answer_at(answers: &[Option<Fault>], place: usize) -> Option<Fault>
     ensures { result ≡ slice_index_or answers.now place None }
 {
-    if place < answers.len() {
-        answers[place]
-    } else {
-        None
-    }
+    answers.get(place).copied().flatten()
 }
 
 // The first calls of a list.
 fn first_calls(calls: &[Call], count: usize) -> &[Call]
     ensures { result.now ≡ take count calls.now }
 {
-    if count < calls.len() {
-        &calls[0..count]
-    } else {
-        calls
-    }
+    &calls[..count.min(calls.len())]
 }
 
 // A new run on which so many of the calls were made.

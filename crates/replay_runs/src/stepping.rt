@@ -42,6 +42,7 @@ pub(crate) fn print_weighed<B: OfferBook, N: Network>(
     Ok(())
 }
 
+// The step is printed by the number that was asked for.
 fn print_step(rt: &HostRuntime, step: u8, gap: i64, worth: i64) -> io::Result<()> {
     println!(rt; "step {step} gap {gap} worth {worth}")
 }

@@ -14,11 +14,11 @@ fn check_row(rt: &impl Abort, row: Row, number: u8) {
         ldl,
         hdl,
         hsl,
-        count,
         reading,
         points,
     } = row;
-    let [first, last, ..] = points;
+    let count = points.count;
+    let [first, last, ..] = points.items;
     let (from, begins, to, ends) = (first.level, first.price, last.level, last.price);
     assert!(rt;
         told(1_000, &[row]) == (number, 0),
@@ -97,11 +97,13 @@ fn counts_and_readings(rt: HostRuntime) {
     ] {
         check_row(
             &rt,
-            Row {
+            counted(
                 count,
-                reading,
-                ..plain(letter)
-            },
+                Row {
+                    reading,
+                    ..plain(letter)
+                },
+            ),
             number,
         );
     }

@@ -1,17 +1,13 @@
 // Rows to vary, and what a book of rows is told.
 
+use given::Given;
 use rows::{Point, Row, check_rows};
 
 // A row with two points, each a level and a price.
 pub(crate) fn two(letter: char, first: (u16, i32), last: (u16, i32)) -> Row {
-    let mut points = [Point {
-        level: last.0,
-        price: last.1,
-    }; 10];
-    points[0] = Point {
-        level: first.0,
-        price: first.1,
-    };
+    let mut points = Given::new(point(last));
+    points.push(point(first));
+    points.push(point(last));
     Row {
         letter,
         bus: 1,
@@ -20,9 +16,12 @@ pub(crate) fn two(letter: char, first: (u16, i32), last: (u16, i32)) -> Row {
         hdl: 300,
         hsl: 400,
         reading: 200,
-        count: 2,
         points,
     }
+}
+
+fn point((level, price): (u16, i32)) -> Point {
+    Point { level, price }
 }
 
 // A row with two points at one price: with a class letter it keeps every rule.
@@ -32,10 +31,14 @@ pub(crate) fn plain(letter: char) -> Row {
 
 // A row without points.
 pub(crate) fn bare(letter: char) -> Row {
-    Row {
-        count: 0,
-        ..plain(letter)
-    }
+    counted(0, plain(letter))
+}
+
+// The row with another count of points, whichever points those are.
+pub(crate) fn counted(count: usize, row: Row) -> Row {
+    let mut points = row.points;
+    points.count = count;
+    Row { points, ..row }
 }
 
 // Number and place of the fault at the cap, or two zeros.

@@ -1,18 +1,20 @@
 -- What a row can break, one rule after another.
-use Rattle.std.specs.Prelude.{◌≡◌, ℕ, suc, Bool, true, false, cond, not, ◌&&◌, ◌||◌, List, [], ◌∷◌, map, length, take, ℤ, pos, negsuc, is_err, Some, None, Option, ◌==◌, int_le, nat_le, nat_lt}
+use Rattle.std.specs.Prelude.{◌≡◌, ℕ, Bool, true, false, cond, not, ◌&&◌, ◌||◌, List, [], ◌∷◌, map, ℤ, pos, negsuc, is_err, Some, None, Option, ◌==◌, int_le, nat_le, nat_lt}
 use Rattle.rows.specs.Classes.{class_of}
 use Rattle.rows.specs.declared.row.Point.{Point}
 use Rattle.rows.specs.declared.row.Row.{Row}
 use Rattle.rows.specs.declared.rule.Rule.{Rule}
 use Rattle.rows.specs.declared.rule.Rule.TheVariants.{Letter, Bus, Limits, Count, Levels, Prices, Reading}
+use Rattle.given.specs.Kept.{kept}
 use Rattle.fault.specs.First.{first_of}
+use Rattle.fault.specs.Rules.{fault, first_broken, too_many}
 use Rattle.fault.specs.declared.cause.Cause.{Cause}
 use Rattle.fault.specs.declared.cause.Fault.{Fault}
 use Rattle.fault.specs.declared.cause.Cause.TheVariants.{ClassLetter, BusNumber, UnitLimits, PointCount, CurveLevels, CurvePrices, Reading as ReadingRange, OfferCap as CapRange, RowCount}
 
 -- the submitted points of a row
 abbrev pub points_of : Row → List Point
-points_of r = take r.count r.points
+points_of r = kept r.points.count r.points.items
 
 abbrev pub is_thermal : Row → Bool
 is_thermal r = r.letter == 78
@@ -45,11 +47,11 @@ abbrev pub broken : ℕ → Rule → Row → Bool
 broken w Letter r = is_err (class_of r.letter)
 broken w Bus r = nat_lt 63 r.bus
 broken w Limits r = not (limits_nest r)
-broken w Count r = nat_lt 10 r.count || (is_load r && r.count == 0)
+broken w Count r = nat_lt 10 r.points.count || (is_load r && r.points.count == 0)
 broken w Levels r = not (levels_from 0 (points_of r))
 broken w Prices r = not (in_order (is_load r) floor_price (pos w) (points_of r))
 broken w Reading r =
-    (is_thermal r && r.count == 0 && not (nat_le r.lsl r.reading && nat_le r.reading r.hsl))
+    (is_thermal r && r.points.count == 0 && not (nat_le r.lsl r.reading && nat_le r.reading r.hsl))
     || (is_load r && nat_lt 20000 r.reading)
 
 -- a row that breaks no rule
@@ -65,19 +67,15 @@ cause_of Levels = CurveLevels
 cause_of Prices = CurvePrices
 cause_of Reading = ReadingRange
 
-abbrev fault : Cause → ℕ → Fault
-fault c i = record { cause = c; place = i }
-
 -- the first row that breaks a rule, where the rows are numbered from i
-unfoldable pub fault_from : ℕ → Rule → ℕ → List Row → Option Fault
-fault_from w k i [] = None
-fault_from w k i (r ∷ rs) = cond (broken w k r) (Some (fault (cause_of k) i)) (fault_from w k (suc i) rs)
+abbrev pub fault_from : ℕ → Rule → ℕ → List Row → Option Fault
+fault_from w k i rows = first_broken (broken w k) (cause_of k) i rows
 
 abbrev pub cap_fault : ℕ → Option Fault
 cap_fault w = cond (nat_le 1 w && nat_le w 1000000) None (Some (fault CapRange 0))
 
 abbrev pub row_count_fault : List Row → Option Fault
-row_count_fault rows = cond (nat_le (length rows) 64) None (Some (fault RowCount 0))
+row_count_fault rows = too_many 64 RowCount rows
 
 -- the rules in the order of their numbers
 abbrev pub rules : List Rule

@@ -19,10 +19,7 @@ impl OfferCap {
         ensures { MatchResult result (λ made. made.cents ≡ cents) (λ f. (f ≡ record { cause = CapRange; place = 0 }) × ((cents < 1) ⊎ (1000000 < cents))) }
     {
         if cents < 1 || cents > 1_000_000 {
-            return Err(Fault {
-                cause: Cause::OfferCap,
-                place: 0,
-            });
+            return Err(Fault::new(Cause::OfferCap, 0));
         }
         Ok(OfferCap { cents })
     }

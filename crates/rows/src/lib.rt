@@ -7,6 +7,6 @@ mod row;
 mod rule;
 
 pub use cap::OfferCap;
-pub use class::{Class, class_of};
+pub use class::Class;
 pub use row::{Point, Row};
 pub use rule::{Rule, check_rows};

@@ -3,17 +3,19 @@
 ghost use Rattle.std.specs.Prelude.{◌≡◌, ◌≤◌, length};
 ghost use Rattle.rows.specs.Rules.{points_of};
 
+use given::Given;
+
 // A price in cents at a level in tenths.
-#[derive(Clone, Copy)]
+#[derive(Clone, Copy, Debug, Eq, PartialEq)]
 pub struct Point {
     pub level: u16,
     pub price: i32,
 }
 
-// A participant's row. `count` is the number of points that were submitted; `points` has the first
-// ten of them, and what stands past `count` means nothing.
+// A participant's row. However many points were submitted, `points` counts them all and has the first ten.
 #[derive(Clone, Copy)]
 pub struct Row {
+    // as it was submitted, and so no `Class` yet: another letter than four has to be declined by its rule
     pub letter: char,
     pub bus: u8,
     pub lsl: u16,
@@ -21,8 +23,7 @@ pub struct Row {
     pub hdl: u16,
     pub hsl: u16,
     pub reading: u16,
-    pub count: usize,
-    pub points: [Point; 10],
+    pub points: Given<Point, 10>,
 }
 
 impl Row {
@@ -31,10 +32,6 @@ impl Row {
         ensures value { result.now ≡ points_of self.now }
         ensures few { length result.now ≤ 10 }
     {
-        if self.count < 10 {
-            &self.points[0..self.count]
-        } else {
-            &self.points
-        }
+        self.points.as_slice()
     }
 }

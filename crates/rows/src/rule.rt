@@ -4,9 +4,9 @@ ghost use Rattle.std.specs.Prelude.{◌≡◌, ℕ, ◌<◌, ◌≤◌, Bool, tr
 ghost use Rattle.rows.specs.Rules.{broken, cause_of, Lawful, fault_from, row_count_fault, rows_fault, limits_nest, levels_from, in_order};
 
 use crate::cap::OfferCap;
-use crate::class::{Class, class_of};
+use crate::class::Class;
 use crate::row::{Point, Row};
-use fault::{Cause, Fault};
+use fault::{Cause, Fault, hold, hold_count};
 
 // What a row by itself can break, in the order in which rows are looked at.
 #[derive(Clone, Copy)]
@@ -35,15 +35,24 @@ impl Rule {
         }
     }
 
+    fn at(self, offer_cap: OfferCap) -> Capped
+        ensures { result ≡ record { rule = self; offer_cap = offer_cap } }
+    {
+        Capped {
+            rule: self,
+            offer_cap,
+        }
+    }
+
     // Whether the row breaks this rule at the offer cap.
     pub fn broken_by(self, row: &Row, offer_cap: OfferCap) -> bool
         ensures { result ≡ broken offer_cap.cents self row.now }
     {
         match self {
-            Rule::Letter => class_of(row.letter).is_err(),
+            Rule::Letter => Class::try_from(row.letter).is_err(),
             Rule::Bus => row.bus > 63,
             Rule::Limits => !limits_nest(row),
-            Rule::Count => row.count > 10 || (row.letter == 'L' && row.count == 0),
+            Rule::Count => row.points.count > 10 || (row.letter == 'L' && row.points.count == 0),
             Rule::Levels => !levels_rise(row.submitted()),
             Rule::Prices => !in_order(
                 row.letter == 'L',
@@ -52,7 +61,9 @@ impl Rule {
                 row.submitted(),
             ),
             Rule::Reading => {
-                (row.letter == 'N' && row.count == 0 && !within(row.lsl, row.reading, row.hsl))
+                (row.letter == 'N'
+                    && row.points.count == 0
+                    && !within(row.lsl, row.reading, row.hsl))
                     || (row.letter == 'L' && row.reading > 20_000)
             }
         }
@@ -102,31 +113,27 @@ fn in_order(load: bool, floor: i32, top: i32, points: &[Point]) -> bool
     true
 }
 
-// Every row keeps the rule, or the first row that breaks it.
-fn hold(rule: Rule, offer_cap: OfferCap, rows: &[Row]) -> Result<(), Fault>
-    ensures { MatchResult result (λ _. fault_from offer_cap.cents rule 0 rows.now ≡ None) (λ f. fault_from offer_cap.cents rule 0 rows.now ≡ Some f) }
-{
-    for (place, row) in rows.iter().enumerate() {
-        if rule.broken_by(row, offer_cap) {
-            return Err(Fault {
-                cause: rule.cause(),
-                place,
-            });
-        }
-    }
-    Ok(())
+// A rule at an offer cap.
+#[derive(Clone, Copy)]
+struct Capped {
+    rule: Rule,
+    offer_cap: OfferCap,
 }
 
-fn few(rows: &[Row]) -> Result<(), Fault>
-    ensures { MatchResult result (λ _. row_count_fault rows.now ≡ None) (λ f. row_count_fault rows.now ≡ Some f) }
-{
-    if rows.len() > 64 {
-        return Err(Fault {
-            cause: Cause::RowCount,
-            place: 0,
-        });
+impl fault::Rule for Capped {
+    type Row = Row;
+
+    ghost broken = { λ k. broken k.offer_cap.cents k.rule };
+
+    ghost named = { λ k. cause_of k.rule };
+
+    fn is_broken_by(&self, row: &Row) -> bool {
+        self.rule.broken_by(row, self.offer_cap)
     }
-    Ok(())
+
+    fn cause(&self) -> Cause {
+        self.rule.cause()
+    }
 }
 
 // The offer cap, where cap and rows keep every rule of a house book; else the first fault: by
@@ -137,13 +144,13 @@ pub fn check_rows(cents: u32, rows: &[Row]) -> Result<OfferCap, Fault>
     ensures lawful { OnOk result ((i : ℕ) (d : Row) → i < length rows.now → Lawful cents (slice_index_or rows.now i d)) }
 {
     let offer_cap = OfferCap::new(cents)?;
-    few(rows)?;
-    hold(Rule::Letter, offer_cap, rows)?;
-    hold(Rule::Bus, offer_cap, rows)?;
-    hold(Rule::Limits, offer_cap, rows)?;
-    hold(Rule::Count, offer_cap, rows)?;
-    hold(Rule::Levels, offer_cap, rows)?;
-    hold(Rule::Prices, offer_cap, rows)?;
-    hold(Rule::Reading, offer_cap, rows)?;
+    hold_count(rows, 64, Cause::RowCount)?;
+    hold(&Rule::Letter.at(offer_cap), rows)?;
+    hold(&Rule::Bus.at(offer_cap), rows)?;
+    hold(&Rule::Limits.at(offer_cap), rows)?;
+    hold(&Rule::Count.at(offer_cap), rows)?;
+    hold(&Rule::Levels.at(offer_cap), rows)?;
+    hold(&Rule::Prices.at(offer_cap), rows)?;
+    hold(&Rule::Reading.at(offer_cap), rows)?;
     Ok(offer_cap)
 }

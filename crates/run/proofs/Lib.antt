@@ -1,6 +1,6 @@
 pub mod Answered
-pub mod Filled
 pub mod Held
 pub mod Judged
+pub mod Stays
 pub mod Termed
 pub mod Turns

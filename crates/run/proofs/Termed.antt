@@ -7,7 +7,7 @@ use Rattle.calls.specs.declared.call.ParticipantTerm.{ParticipantTerm}
 use Rattle.book.specs.Meaning.{Book}
 use Rattle.bounded.specs.Mitigation.{Terms, Layer, in_range}
 use Rattle.bounded.specs.Tabled.{with_term}
-use Rattle.checks.specs.First.{unless}
+use Rattle.feasible.specs.First.{unless}
 use Rattle.law.specs.After.{term_in}
 use Rattle.law.specs.Declined.{term_fault}
 

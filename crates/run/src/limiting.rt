@@ -3,7 +3,7 @@
 ghost use Rattle.std.specs.Prelude.{◌≡◌};
 ghost use Rattle.calls.specs.declared.call.Call.TheVariants.{Limit};
 ghost use Rattle.run.specs.Called.{Called};
-ghost use Rattle.run.specs.View.{state_of};
+ghost use Rattle.run.specs.View.{SameMarket, state_of};
 
 use crate::run::Run;
 use book::OfferBook;
@@ -16,24 +16,13 @@ impl<B: OfferBook, N: Network> Run<B, N> {
     // the limit is out of range.
     pub fn limit(&mut self, asked: LineLimit) -> Result<(), Fault>
         ensures called { Called (B.OfferBook.meaning self.old.book.book) (N.Network.meaning self.old.network) (state_of self.old) (Limit asked) (state_of self.new) result }
-        ensures book { self.new.book.book ≡ self.old.book.book }
-        ensures network { self.new.network ≡ self.old.network }
+        ensures market { SameMarket self.old self.new }
     {
         if asked.line >= self.network.lines() {
-            return Err(Fault {
-                cause: Cause::Absent,
-                place: asked.line,
-            });
+            return Err(Fault::new(Cause::Absent, asked.line));
         }
-        if !self
-            .constraints
-            .limit(asked.line, asked.amount, asked.competitive)
-        {
-            return Err(Fault {
-                cause: Cause::Amount,
-                place: asked.line,
-            });
-        }
+        self.constraints
+            .limit(asked.line, asked.amount, asked.competitive)?;
         self.first = None;
         self.second = None;
         Ok(())

@@ -6,7 +6,7 @@ ghost use Rattle.law.specs.Declined.{fault_of};
 ghost use Rattle.law.specs.Law.{LawOfRuns, leaves};
 ghost use Rattle.run.specs.Called.{Called};
 ghost use Rattle.run.specs.Played.{answer_at};
-ghost use Rattle.run.specs.View.{state_of};
+ghost use Rattle.run.specs.View.{SameMarket, state_of};
 
 use crate::run::Run;
 use book::OfferBook;
@@ -18,8 +18,7 @@ impl<B: OfferBook, N: Network> Run<B, N> {
     // Whichever call it is.
     pub fn call(&mut self, call: &Call) -> Result<(), Fault>
         ensures called { Called (B.OfferBook.meaning self.old.book.book) (N.Network.meaning self.old.network) (state_of self.old) call.now (state_of self.new) result }
-        ensures book { self.new.book.book ≡ self.old.book.book }
-        ensures network { self.new.network ≡ self.old.network }
+        ensures market { SameMarket self.old self.new }
     {
         match call {
             Call::Require(asked) => self.require(*asked),
@@ -33,17 +32,14 @@ impl<B: OfferBook, N: Network> Run<B, N> {
     fn fault_of(&mut self, call: &Call) -> Option<Fault>
         ensures told { result ≡ fault_of (B.OfferBook.meaning self.old.book.book) (N.Network.meaning self.old.network) (state_of self.old) call.now }
         ensures left { state_of self.new ≡ state_after (B.OfferBook.meaning self.old.book.book) (N.Network.meaning self.old.network) (state_of self.old) call.now }
-        ensures book { self.new.book.book ≡ self.old.book.book }
-        ensures network { self.new.network ≡ self.old.network }
+        ensures market { SameMarket self.old self.new }
     {
-        match self.call(call) {
-            Ok(()) => None,
-            Err(fault) => Some(fault),
-        }
+        self.call(call).err()
     }
 }
 
-// Writes an answer at its place, if there is room.
+// Writes an answer at its place, if there is room: a call is made also where there is none, so calls and answers are not
+// zipped.
 fn note(answers: &mut [Option<Fault>], place: usize, answer: Option<Fault>)
     ensures { answers.new ≡ slice_set answers.old place answer }
 {

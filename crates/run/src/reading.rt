@@ -9,7 +9,7 @@ ghost use Rattle.feasible.specs.declared.stage.Stage.TheVariants.{Second};
 ghost use Rattle.law.specs.Law.{book_at};
 ghost use Rattle.law.specs.State.{held_in};
 ghost use Rattle.run.specs.Judged.{second_book};
-ghost use Rattle.run.specs.View.{force_of, state_of};
+ghost use Rattle.run.specs.View.{Still, force_of, state_of};
 ghost use Rattle.run.specs.Worth.{worth_at};
 
 use crate::run::Run;
@@ -44,9 +44,7 @@ impl<B: OfferBook, N: Network> Run<B, N> {
     // step's worth is worked out, its bounded layer has the reference prices.
     pub fn worth(&mut self, stage: Stage) -> Option<i64>
         ensures value { result ≡ worth_at (B.OfferBook.meaning self.old.book.book) (N.Network.meaning self.old.network) (state_of self.old) stage }
-        ensures state { state_of self.new ≡ state_of self.old }
-        ensures book { self.new.book.book ≡ self.old.book.book }
-        ensures network { self.new.network ≡ self.old.network }
+        ensures still { Still self.old self.new }
     {
         let held = self.held(stage)?;
         match stage {
@@ -58,9 +56,7 @@ impl<B: OfferBook, N: Network> Run<B, N> {
     // The worth of a dispatch at the prices of the second step.
     fn second_worth(&mut self, dispatch: &Dispatch) -> i64
         ensures value { result ≡ worth (book_at (B.OfferBook.meaning self.old.book.book) (N.Network.meaning self.old.network) (state_of self.old) Second) (base_of dispatch.now) }
-        ensures state { state_of self.new ≡ state_of self.old }
-        ensures book { self.new.book.book ≡ self.old.book.book }
-        ensures network { self.new.network ≡ self.old.network }
+        ensures still { Still self.old self.new }
     {
         match self.first {
             Some(first) => self.bounded_worth(&first, dispatch),
@@ -71,9 +67,7 @@ impl<B: OfferBook, N: Network> Run<B, N> {
     // The worth of a dispatch at the prices that a first step bounds.
     fn bounded_worth(&mut self, first: &Held, dispatch: &Dispatch) -> i64
         ensures value { result ≡ worth (second_book (B.OfferBook.meaning self.old.book.book) (N.Network.meaning self.old.network) (force_of self.old) (held_of first.now)) (base_of dispatch.now) }
-        ensures state { state_of self.new ≡ state_of self.old }
-        ensures book { self.new.book.book ≡ self.old.book.book }
-        ensures network { self.new.network ≡ self.old.network }
+        ensures still { Still self.old self.new }
     {
         self.bound_by(first);
         let worth = worth(&self.book, dispatch);

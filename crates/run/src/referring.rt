@@ -7,13 +7,14 @@ ghost use Rattle.bounded.specs.Tabled.{layer_of};
 ghost use Rattle.checks.specs.Proposed.{held_of};
 ghost use Rattle.law.specs.State.{reference};
 ghost use Rattle.run.specs.Judged.{second_book};
-ghost use Rattle.run.specs.View.{force_of, state_of};
+ghost use Rattle.run.specs.View.{Still, force_of, state_of};
 
 use crate::run::Run;
 use book::OfferBook;
 use checks::Held;
 use market::{Quote, lmp};
 use network::Network;
+use std::array;
 
 // A participant's price in cents, rounded toward minus infinity.
 fn reference<B: OfferBook, N: Network>(
@@ -31,29 +32,21 @@ fn reference<B: OfferBook, N: Network>(
 fn references_of<B: OfferBook, N: Network>(book: &B, network: &N, quote: &Quote) -> [i32; 64]
     ensures { (i : ℕ) → i < (B.OfferBook.meaning book.now).count → slice_index_or result i (pos 0) ≡ reference (B.OfferBook.meaning book.now) (N.Network.meaning network.now) (prices_of quote.now) i }
 {
-    let mut references = [0; 64];
-    for participant in 0..book.count() {
-        references[participant] = reference(book, network, quote, participant);
-    }
-    references
+    array::from_fn(|participant| reference(book, network, quote, participant))
 }
 
 impl<B: OfferBook, N: Network> Run<B, N> {
     // Sets the reference prices of a first step, until they are cleared.
     pub(crate) fn bound_by(&mut self, first: &Held)
         ensures bounded { layered (B.OfferBook.meaning self.new.book.book) (layer_of self.new.book.table) ≡ second_book (B.OfferBook.meaning self.old.book.book) (N.Network.meaning self.old.network) (force_of self.old) (held_of first.now) }
-        ensures state { state_of self.new ≡ state_of self.old }
-        ensures book { self.new.book.book ≡ self.old.book.book }
-        ensures network { self.new.network ≡ self.old.network }
+        ensures still { Still self.old self.new }
     {
         self.book.refer(references_of(self.book.below(), &self.network, &first.quote));
     }
 
     // Reference prices are no part of what is in force.
     pub(crate) fn unbound(&mut self)
-        ensures state { state_of self.new ≡ state_of self.old }
-        ensures book { self.new.book.book ≡ self.old.book.book }
-        ensures network { self.new.network ≡ self.old.network }
+        ensures still { Still self.old self.new }
     {
         self.book.clear();
     }

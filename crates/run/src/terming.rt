@@ -3,7 +3,7 @@
 ghost use Rattle.std.specs.Prelude.{◌≡◌};
 ghost use Rattle.calls.specs.declared.call.Call.TheVariants.{Term as SetTerm};
 ghost use Rattle.run.specs.Called.{Called};
-ghost use Rattle.run.specs.View.{state_of};
+ghost use Rattle.run.specs.View.{SameMarket, state_of};
 
 use crate::run::Run;
 use book::OfferBook;
@@ -17,20 +17,13 @@ impl<B: OfferBook, N: Network> Run<B, N> {
     // of range.
     pub fn term(&mut self, asked: ParticipantTerm) -> Result<(), Fault>
         ensures called { Called (B.OfferBook.meaning self.old.book.book) (N.Network.meaning self.old.network) (state_of self.old) (SetTerm asked) (state_of self.new) result }
-        ensures book { self.new.book.book ≡ self.old.book.book }
-        ensures network { self.new.network ≡ self.old.network }
+        ensures market { SameMarket self.old self.new }
     {
         if asked.participant >= self.book.below().count() {
-            return Err(Fault {
-                cause: Cause::Absent,
-                place: asked.participant,
-            });
+            return Err(Fault::new(Cause::Absent, asked.participant));
         }
         let Some(term) = Term::new(asked.floor, asked.ceiling, asked.adder, asked.subject) else {
-            return Err(Fault {
-                cause: Cause::Amount,
-                place: asked.participant,
-            });
+            return Err(Fault::new(Cause::Amount, asked.participant));
         };
         self.book.set_term(asked.participant, term);
         self.second = None;

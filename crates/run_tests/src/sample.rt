@@ -1,9 +1,10 @@
 // A thermal unit at bus 0 and a committed one at bus 1, with one line that takes the whole of bus 0, and calls on a run
 // over them.
 
-use calls::{BasePoints, Call, LineLimit, ParticipantTerm, Proposal, Requirement, ShadowPrices};
+use calls::{Call, LineLimit, ParticipantTerm, Proposal, Requirement};
 use fault::Fault;
 use feasible::Stage;
+use given::Given;
 use house::HouseBook;
 use network::TableNetwork;
 use rows::{Point, Row};
@@ -23,22 +24,20 @@ fn unit(letter: char, bus: u8, lsl: u16, hsl: u16) -> Row {
         hdl: hsl,
         hsl,
         reading: 0,
-        count: 0,
-        points: [Point { level: 0, price: 0 }; 10],
+        points: Given::new(Point { level: 0, price: 0 }),
     }
 }
 
 pub(crate) fn book() -> Result<HouseBook, Fail> {
     let mut thermal = unit('N', 0, 100, 300);
-    thermal.count = 2;
-    thermal.points[0] = Point {
+    thermal.points.push(Point {
         level: 100,
         price: 2_000,
-    };
-    thermal.points[1] = Point {
+    });
+    thermal.points.push(Point {
         level: 300,
         price: 4_000,
-    };
+    });
     match HouseBook::load(500_000, &[thermal, unit('R', 1, 0, 200)]) {
         Ok(book) => Ok(book),
         Err(_) => Err(Fail::new("the rows break a rule")),
@@ -82,11 +81,10 @@ pub(crate) fn term(participant: usize, floor: i32, ceiling: i32, adder: u32) -> 
 
 // A proposal with one shadow price and two base points.
 pub(crate) fn propose(step: u8, system: i32, shadow: u32, base: [u16; 2]) -> Call {
-    let mut prices = ShadowPrices::new();
+    let mut prices = Given::new(0);
     prices.push(shadow);
-    let mut points = BasePoints::new();
-    points.push(base[0]);
-    points.push(base[1]);
+    let mut points = Given::new(0);
+    points.append(&base);
     Call::Propose(Proposal {
         step,
         system,

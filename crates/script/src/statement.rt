@@ -1,17 +1,13 @@
 // What a line says, by its first word.
 
-use crate::base::read_base;
-use crate::blocks::read_block_row;
-use crate::line::read_shares;
-use crate::mistake::Mistake;
-use crate::number::cents_of;
-use crate::points::BasePoints;
-use crate::reference::{References, read_references};
-use crate::row::read_row;
-use crate::term::{TermLine, read_term};
-use crate::words::Words;
 use block::BlockRow;
+use calls::{BasePoints, ParticipantTerm};
+use entries::{
+    References, read_block_row, read_few_base, read_only, read_references, read_row, read_shares,
+    read_term,
+};
 use rows::Row;
+use words::{Mistake, Words};
 
 #[derive(Clone, Copy)]
 pub enum Statement {
@@ -21,7 +17,7 @@ pub enum Statement {
     Cap(u32),
     Row(Row),
     Block(BlockRow),
-    Term(TermLine),
+    Term(ParticipantTerm),
     Reference(References),
     // the shares of a line, bus by bus
     Line([i16; 64]),
@@ -30,21 +26,15 @@ pub enum Statement {
 
 pub fn read_line(line: &str) -> Result<Statement, Mistake> {
     let mut words = Words::of(line);
-    match words.first() {
+    match words.next() {
         None => Ok(Statement::Blank),
-        Some("cap") => Ok(Statement::Cap(read_cap(words)?)),
+        Some("cap") => Ok(Statement::Cap(read_only(words)?)),
         Some("row") => Ok(Statement::Row(read_row(words)?)),
         Some("block") => Ok(Statement::Block(read_block_row(words)?)),
         Some("term") => Ok(Statement::Term(read_term(words)?)),
         Some("reference") => Ok(Statement::Reference(read_references(words)?)),
         Some("line") => Ok(Statement::Line(read_shares(words)?)),
-        Some("base") => Ok(Statement::Base(read_base(words)?)),
+        Some("base") => Ok(Statement::Base(read_few_base(words)?)),
         Some(_) => Err(Mistake::UnknownWord),
     }
-}
-
-fn read_cap(mut words: Words) -> Result<u32, Mistake> {
-    let cents = cents_of(words.number()?);
-    words.end()?;
-    Ok(cents)
 }

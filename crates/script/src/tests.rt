@@ -1,15 +1,18 @@
 // Lines of each kind, numbers past their fields, and each mistake.
 
-use crate::{BasePoints, References, Statement, TermLine, read_line};
+use crate::{Statement, read_line};
 use block::BlockRow;
+use calls::{BasePoints, ParticipantTerm};
+use entries::References;
 use rows::Row;
+use std::alloc::{AllocError, Global};
 use std::test::Fail;
 
 // The reason of the line's mistake, or nothing.
-fn reason(line: &str) -> &'static str {
+fn reason(heap: Global, line: &str) -> Result<String, AllocError> {
     match read_line(line) {
-        Ok(_) => "",
-        Err(mistake) => mistake.reason(),
+        Ok(_) => Ok(String::new(heap)),
+        Err(mistake) => mistake.to_string(heap),
     }
 }
 
@@ -34,7 +37,7 @@ fn blocks_of(line: &str) -> Result<BlockRow, &'static str> {
     }
 }
 
-fn term_of(line: &str) -> Result<TermLine, &'static str> {
+fn term_of(line: &str) -> Result<ParticipantTerm, &'static str> {
     match read_line(line) {
         Ok(Statement::Term(term)) => Ok(term),
         _ => Err("no term"),
@@ -60,7 +63,7 @@ fn nothing_is_said() -> Result<(), Fail> {
 }
 
 #[test]
-fn mistakes(rt: HostRuntime) {
+fn mistakes(rt: HostRuntime) -> Result<(), Fail> {
     for (line, mistake) in [
         ("cup 500000", "unknown word"),
         ("line 0", "a share is bus:share"),
@@ -87,8 +90,9 @@ fn mistakes(rt: HostRuntime) {
         ("term 0 -25000 0 0 no no", "extra word"),
         ("reference 1 2 x", "not a number"),
     ] {
-        assert_eq!(rt; reason(line), mistake, "{}", line);
+        assert_eq!(rt; reason(rt.alloc(), line)?.as_str(), mistake, "{}", line);
     }
+    Ok(())
 }
 
 #[test]
@@ -97,8 +101,8 @@ fn numbers_are_clamped(rt: HostRuntime) -> Result<(), Fail> {
     assert_eq!(rt; cap_of("cap 99999999999999999999999"), Some(4294967295));
     let row = row_of("row N 300 70000 65535 1 2 3 4:-99999999999 70000:99999999999")?;
     assert!(rt; row.letter == 'N' && row.bus == 255 && row.lsl == 65535 && row.ldl == 65535);
-    assert!(rt; row.hdl == 1 && row.hsl == 2 && row.reading == 3 && row.count == 2);
-    let [low, high, ..] = row.points;
+    assert!(rt; row.hdl == 1 && row.hsl == 2 && row.reading == 3 && row.points.count == 2);
+    let [low, high, ..] = row.points.items;
     assert!(rt; low.level == 4 && low.price == -2147483648);
     assert!(rt; high.level == 65535 && high.price == 2147483647);
     Ok(())
@@ -107,16 +111,16 @@ fn numbers_are_clamped(rt: HostRuntime) -> Result<(), Fail> {
 #[test]
 fn eleven_points(rt: HostRuntime) -> Result<(), Fail> {
     let row = row_of("row I 1 0 0 9 9 0 1:1 2:2 3:3 4:4 5:5 6:6 7:7 8:8 9:9 10:10 11:11")?;
-    assert_eq!(rt; row.count, 11);
-    assert_eq!(rt; row.points[9].level, 10);
+    assert_eq!(rt; row.points.count, 11);
+    assert_eq!(rt; row.points.items[9].level, 10);
     Ok(())
 }
 
 #[test]
 fn two_blocks(rt: HostRuntime) -> Result<(), Fail> {
     let row = blocks_of("block 300 100:-2000 70000:3000")?;
-    assert!(rt; row.bus == 255 && row.count == 2);
-    let [first, second, ..] = row.blocks;
+    assert!(rt; row.bus == 255 && row.blocks.count == 2);
+    let [first, second, ..] = row.blocks.items;
     assert!(rt; first.size == 100 && first.price == -2000);
     assert!(rt; second.size == 65535 && second.price == 3000);
     Ok(())
@@ -125,8 +129,8 @@ fn two_blocks(rt: HostRuntime) -> Result<(), Fail> {
 #[test]
 fn eleven_blocks(rt: HostRuntime) -> Result<(), Fail> {
     let row = blocks_of("block 1 1:1 2:2 3:3 4:4 5:5 6:6 7:7 8:8 9:9 10:10 11:11")?;
-    assert_eq!(rt; row.count, 11);
-    assert_eq!(rt; row.blocks[9].size, 10);
+    assert_eq!(rt; row.blocks.count, 11);
+    assert_eq!(rt; row.blocks.items[9].size, 10);
     Ok(())
 }
 
@@ -145,15 +149,18 @@ fn references(rt: HostRuntime) -> Result<(), Fail> {
     let none = references_of("reference")?;
     assert_eq!(rt; none.count, 0);
     let three = references_of("reference 2000 99999999999 -1")?;
-    let [first, second, third, fourth, ..] = three.prices;
+    let [first, second, third, fourth, ..] = three.items;
     assert_eq!(rt; three.count, 3);
     assert!(rt; first == 2000 && second == 2147483647 && third == -1 && fourth == 0);
     let most =
         "reference 1 2 3 4 5 6 7 8 9 10 11 12 13 14 15 16 17 18 19 20 21 22 23 24 25 26 27 28 29 30 31 32 33 34 35 36 37 38 39 40 41 42 43 44 45 46 47 48 49 50 51 52 53 54 55 56 57 58 59 60 61 62 63 64";
-    assert_eq!(rt; references_of(most)?.prices[63], 64);
+    assert_eq!(rt; references_of(most)?.items[63], 64);
     let more =
         "reference 1 2 3 4 5 6 7 8 9 10 11 12 13 14 15 16 17 18 19 20 21 22 23 24 25 26 27 28 29 30 31 32 33 34 35 36 37 38 39 40 41 42 43 44 45 46 47 48 49 50 51 52 53 54 55 56 57 58 59 60 61 62 63 64 65";
-    assert_eq!(rt; reason(more), "more than 64 reference prices");
+    assert_eq!(rt;
+        reason(rt.alloc(), more)?.as_str(),
+        "more than 64 reference prices"
+    );
     Ok(())
 }
 
@@ -170,8 +177,7 @@ fn shares(rt: HostRuntime) -> Result<(), Fail> {
 fn base_of(line: &str) -> Result<BasePoints, &'static str> {
     match read_line(line) {
         Ok(Statement::Base(base)) => Ok(base),
-        Ok(_) => Err("no base points"),
-        Err(mistake) => Err(mistake.reason()),
+        _ => Err("no base points"),
     }
 }
 
@@ -185,11 +191,8 @@ fn base_points(rt: HostRuntime) -> Result<(), Fail> {
     let most =
         "base 1 2 3 4 5 6 7 8 1 2 3 4 5 6 7 8 1 2 3 4 5 6 7 8 1 2 3 4 5 6 7 8 1 2 3 4 5 6 7 8 1 2 3 4 5 6 7 8 1 2 3 4 5 6 7 8 1 2 3 4 5 6 7 8";
     assert_eq!(rt; base_of(most)?.as_slice().len(), 64);
-    assert_eq!(rt;
-        reason(
-            "base 1 2 3 4 5 6 7 8 1 2 3 4 5 6 7 8 1 2 3 4 5 6 7 8 1 2 3 4 5 6 7 8 1 2 3 4 5 6 7 8 1 2 3 4 5 6 7 8 1 2 3 4 5 6 7 8 1 2 3 4 5 6 7 8 9"
-        ),
-        "over 64 base points"
-    );
+    let more =
+        "base 1 2 3 4 5 6 7 8 1 2 3 4 5 6 7 8 1 2 3 4 5 6 7 8 1 2 3 4 5 6 7 8 1 2 3 4 5 6 7 8 1 2 3 4 5 6 7 8 1 2 3 4 5 6 7 8 1 2 3 4 5 6 7 8 9";
+    assert_eq!(rt; reason(rt.alloc(), more)?.as_str(), "over 64 base points");
     Ok(())
 }

@@ -1,12 +1,15 @@
 // What a line says, by its first word.
 
-use crate::proposal::{read_base, read_proposal};
-use crate::terms::{read_limit, read_requirement, read_term};
+use crate::proposal::read_proposal;
+use crate::terms::{read_limit, read_requirement};
 use block::BlockRow;
 use calls::{BasePoints, Call, Proposal};
-use entries::{References, read_block_row, read_references, read_row, read_shares};
+use entries::{
+    References, read_base, read_block_row, read_only, read_references, read_row, read_shares,
+    read_term,
+};
 use rows::Row;
-use words::{Mistake, Words, clamp_u8, clamp_u32, read_number};
+use words::{Mistake, Words};
 
 #[derive(Clone, Copy)]
 pub enum Statement {
@@ -27,11 +30,13 @@ pub enum Statement {
     Listing(u8),
 }
 
+// Five words make what they make in `script`, as variants of another type: to let one match call the other would name
+// each of them twice, and be no plainer.
 pub fn read_line(line: &str) -> Result<Statement, Mistake> {
     let mut words = Words::of(line);
-    match words.first() {
+    match words.next() {
         None => Ok(Statement::Blank),
-        Some("cap") => Ok(Statement::Cap(clamp_u32(read_only(words)?))),
+        Some("cap") => Ok(Statement::Cap(read_only(words)?)),
         Some("row") => Ok(Statement::Row(read_row(words)?)),
         Some("block") => Ok(Statement::Block(read_block_row(words)?)),
         Some("reference") => Ok(Statement::Reference(read_references(words)?)),
@@ -42,14 +47,7 @@ pub fn read_line(line: &str) -> Result<Statement, Mistake> {
         Some("term") => Ok(Statement::Call(Call::Term(read_term(words)?))),
         Some("propose") => Ok(Statement::Call(Call::Propose(read_proposal(words)?))),
         Some("weigh") => Ok(Statement::Weigh(read_proposal(words)?)),
-        Some("listing") => Ok(Statement::Listing(clamp_u8(read_only(words)?))),
+        Some("listing") => Ok(Statement::Listing(read_only(words)?)),
         Some(_) => Err(Mistake::UnknownWord),
     }
-}
-
-// The number that is the only word left.
-fn read_only(mut words: Words) -> Result<u64, Mistake> {
-    let number = read_number(words.word()?)?;
-    words.end()?;
-    Ok(number)
 }

@@ -19,6 +19,14 @@ digits_after n (b ∷ bs) = cond (is_digit b) (digits_after (min (n * 10 + (b - 
 abbrev pub number_of : List ℕ → Result ℕ Mistake
 number_of bs = cond (length bs == 0) (Err NotANumber) (digits_after 0 bs)
 
+-- the same, for a field that holds numbers up to its greatest
+abbrev pub within : ℕ → Result ℕ Mistake → Result ℕ Mistake
+within greatest (Ok n) = Ok (min n greatest)
+within greatest (Err e) = Err e
+
+abbrev pub number_within : ℕ → List ℕ → Result ℕ Mistake
+number_within greatest bs = within greatest (number_of bs)
+
 -- a number as a price, within the 32 bits that a price has
 abbrev pub above_zero : Result ℕ Mistake → Result ℤ Mistake
 above_zero (Ok n) = Ok (pos (min n 2147483647))

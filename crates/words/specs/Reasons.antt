@@ -1,7 +1,7 @@
 -- The reason that a mistake gives, in bytes.
 use Rattle.std.specs.Prelude.{ℕ, List, codes}
 use Rattle.words.specs.declared.mistake.Mistake.{Mistake}
-use Rattle.words.specs.declared.mistake.Mistake.TheVariants.{UnknownWord, MissingWord, ExtraWord, NotANumber, NotALetter, NotAPoint, NotABlock, NotYesOrNo, TooManyPrices, NotAShare, BusRange, RepeatedBus, NoSlash}
+use Rattle.words.specs.declared.mistake.Mistake.TheVariants.{UnknownWord, MissingWord, ExtraWord, NotANumber, NotALetter, NotAPoint, NotABlock, NotYesOrNo, TooManyPrices, NotAShare, BusRange, RepeatedBus, NoSlash, ManyBasePoints}
 
 abbrev pub reason_of : Mistake → List ℕ
 reason_of UnknownWord = codes "unknown word"
@@ -17,3 +17,4 @@ reason_of NotAShare = codes "a share is bus:share"
 reason_of BusRange = codes "a bus is 0 to 63"
 reason_of RepeatedBus = codes "a bus is named twice"
 reason_of NoSlash = codes "no / before the base points"
+reason_of ManyBasePoints = codes "over 64 base points"

@@ -1,6 +1,7 @@
 // The words of a line, taken one after another.
 
-ghost use Rattle.std.specs.Prelude.{◌≡◌, MatchOption, MatchResult};
+ghost use Rattle.std.specs.Prelude.{◌≡◌, length, MatchOption, MatchResult};
+ghost use Rattle.std.specs.Iterator.{at_most};
 ghost use Rattle.std.specs.Str.Iter.{split_whitespace_rest};
 ghost use Rattle.words.specs.Next.{left, Said, Next, Spent, More};
 ghost use Rattle.words.specs.declared.mistake.Mistake.TheVariants.{MissingWord, ExtraWord};
@@ -23,28 +24,18 @@ impl<'a> Words<'a> {
         }
     }
 
-    // The next word, if there is one.
-    pub fn first(&mut self) -> Option<&'a str>
-        ensures { MatchOption result (Spent (left self.old)) (λ w. Next (left self.old) w.now (left self.new)) }
-    {
-        self.rest.next()
-    }
-
     // The next word, which has to be there.
     pub fn word(&mut self) -> Result<&'a str, Mistake>
         ensures { MatchResult result (λ w. Next (left self.old) w.now (left self.new)) (λ m. (m ≡ MissingWord) × Spent (left self.old)) }
     {
-        match self.first() {
-            Some(word) => Ok(word),
-            None => Err(Mistake::MissingWord),
-        }
+        self.next().ok_or(Mistake::MissingWord)
     }
 
     // No word is left.
     pub fn end(mut self) -> Result<(), Mistake>
         ensures { MatchResult result (λ _. Spent (left self.entry)) (λ m. (m ≡ ExtraWord) × More (left self.entry)) }
     {
-        match self.first() {
+        match self.next() {
             Some(_) => Err(Mistake::ExtraWord),
             None => Ok(()),
         }
@@ -56,6 +47,19 @@ impl<'a> Words<'a> {
     {
         let Words { rest } = self;
         rest
+    }
+}
+
+impl<'a> Iterator for Words<'a> {
+    type Item = &'a str;
+
+    ghost next_gives = { λ words word rest. MatchOption word (Spent (left words)) (λ w. Next (left words) w.now (left rest)) };
+
+    ghost remaining = { λ words. at_most (length (left words)) };
+
+    // The next word, if there is one.
+    fn next(&mut self) -> Option<&'a str> {
+        self.rest.next()
     }
 }
 

@@ -1,9 +1,9 @@
 // What can be wrong with the form of a line.
 
-ghost use Rattle.std.specs.Prelude.{◌≡◌};
-ghost use Rattle.words.specs.Reasons.{reason_of};
+use std::error::Error;
+use std::fmt;
 
-#[derive(Clone, Copy)]
+#[derive(Clone, Copy, Debug, PartialEq, Eq)]
 pub enum Mistake {
     UnknownWord,
     MissingWord,
@@ -18,14 +18,18 @@ pub enum Mistake {
     BusRange,
     RepeatedBus,
     NoSlash,
+    ManyBasePoints,
 }
 
-impl Mistake {
-    // In a few words, for whoever wrote the line.
-    pub fn reason(&self) -> &'static str
-        ensures { result.now ≡ reason_of self.now }
-    {
-        match self {
+// In a few words, for whoever wrote the line.
+impl fmt::Display for Mistake {
+    ghost use Rattle.std.specs.Prelude.{Some};
+    ghost use Rattle.words.specs.Reasons.{reason_of};
+
+    ghost output = { λ mistake. Some (reason_of mistake) };
+
+    fn fmt<W: fmt::Write>(&self, f: &mut fmt::Formatter<W>) -> fmt::Result {
+        f.write_str(match self {
             Mistake::UnknownWord => "unknown word",
             Mistake::MissingWord => "missing word",
             Mistake::ExtraWord => "extra word",
@@ -39,6 +43,9 @@ impl Mistake {
             Mistake::BusRange => "a bus is 0 to 63",
             Mistake::RepeatedBus => "a bus is named twice",
             Mistake::NoSlash => "no / before the base points",
-        }
+            Mistake::ManyBasePoints => "over 64 base points",
+        })
     }
 }
+
+impl Error for Mistake {}

@@ -37,8 +37,7 @@ row letter lsl hsl reading ps =
       hdl = hsl;
       hsl = hsl;
       reading = reading;
-      count = length ps;
-      points = ps;
+      points = record { count = length ps; items = ps };
     }
 
 -- two units: a thermal one from 100 to 300 at bus 0, and a committed one from 0 to 200 at bus 1
@@ -46,7 +45,7 @@ abbrev pub two_units : Book
 two_units =
     booked 500000
     (row 78 100 300 0 (at 100 (pos 2000) ∷ at 300 (pos 4000) ∷ [])
-    ∷ record { letter = 82; bus = 1; lsl = 0; ldl = 0; hdl = 200; hsl = 200; reading = 0; count = 0; points = [] }
+    ∷ record { letter = 82; bus = 1; lsl = 0; ldl = 0; hdl = 200; hsl = 200; reading = 0; points = record { count = 0; items = [] } }
     ∷ [])
 
 -- one line, in full share of bus 0

@@ -65,7 +65,7 @@ bounded_units = priced_book two_units one_line in_force (Some first_held) Second
 -- the calls that lead there
 abbrev proposal : ℕ → ℤ → ℕ → ℕ → ℕ → Call
 proposal step y u a b =
-    Propose (record { step = step; system = y; shadow = record { count = 1; prices = u ∷ [] }; base = record { count = 2; points = a ∷ b ∷ [] } })
+    Propose (record { step = step; system = y; shadow = record { count = 1; items = u ∷ [] }; base = record { count = 2; items = a ∷ b ∷ [] } })
 
 abbrev pub entry_calls : List Call
 entry_calls =

@@ -1,5 +1,6 @@
 // The worked runs of the documents, gathered in one list and proved to follow from the
-// definitions.
+// definitions. They are a list of their own beside the first worked examples, since the law of runs stands on what those are
+// about.
 #![tactic(auto)]
 
 ghost use Rattle.std.specs.Prelude.{◌≡◌, length};

@@ -7,10 +7,11 @@ ghost use Rattle.text.specs.Laid.{laid_end, laid};
 use super::Line;
 
 impl Line {
+    #[tactic(auto, unfolding(crate::specs::Lines::text_of))]
     pub fn len(&self) -> usize
         ensures { result ≡ length (text_of self.now) }
     {
-        self.len
+        self.bytes.as_slice().len()
     }
 
     // Copies the text to `buffer[at..]` and says where it ends there. Where it does not fit,
@@ -19,9 +20,10 @@ impl Line {
         ensures value { result ≡ laid_end (text_of self.now) at buffer.old }
         ensures after { buffer.new ≡ laid (text_of self.now) at buffer.old }
     {
-        if at <= buffer.len() && self.len <= buffer.len() - at {
-            let end = at + self.len;
-            buffer[at..end].copy_from_slice(&self.bytes[0..self.len]);
+        let text = self.bytes.as_slice();
+        if at <= buffer.len() && text.len() <= buffer.len() - at {
+            let end = at + text.len();
+            buffer[at..end].copy_from_slice(text);
             Some(end)
         } else {
             None

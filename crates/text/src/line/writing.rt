@@ -4,33 +4,31 @@ ghost use Rattle.std.specs.Prelude.{◌≡◌, [], ◌∷◌, ◌++◌, decimal}
 ghost use Rattle.std.specs.Fmt.{signed_decimal};
 ghost use Rattle.text.specs.Lines.{text_of, kept};
 
-use super::{Line, ROOM};
+use super::Line;
+use given::Given;
 
 impl Line {
+    #[tactic(auto, unfolding(crate::specs::Lines::text_of))]
     pub fn new() -> Line
         ensures { text_of result ≡ [] }
     {
         Line {
-            bytes: [0; ROOM],
-            len: 0,
+            bytes: Given::new(0),
         }
     }
 
+    #[tactic(auto, unfolding(crate::specs::Lines::text_of, crate::specs::Lines::kept))]
     pub fn put(&mut self, byte: u8)
         ensures { text_of self.new ≡ kept (text_of self.old ++ byte ∷ []) }
     {
-        if self.len < ROOM {
-            self.bytes[self.len] = byte;
-            self.len += 1;
-        }
+        self.bytes.push(byte);
     }
 
+    #[tactic(auto, unfolding(crate::specs::Lines::text_of, crate::specs::Lines::kept))]
     pub fn put_text(&mut self, text: &[u8])
         ensures { text_of self.new ≡ kept (text_of self.old ++ text.now) }
     {
-        for byte in text {
-            self.put(*byte);
-        }
+        self.bytes.append(text);
     }
 
     // In decimal, with no leading zero.

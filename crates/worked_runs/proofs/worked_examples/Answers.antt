@@ -1,6 +1,6 @@
 use Rattle.std.proofs.Common.{refl}
 use Rattle.curve.specs.Line.{between, price_past, line_price}
-use Rattle.checks.specs.First.{first_place}
+use Rattle.feasible.specs.First.{first_place}
 use Rattle.law.specs.History.{last_set, history}
 use Rattle.market.specs.Best.{best}
 use Rattle.shelf.specs.Sum.{sum}

@@ -4,5 +4,5 @@ use Rattle.block.specs.Offers.{nobody}
 use Rattle.block.proofs.load.stacks_of.Given as goal
 
 -- the rows so far stand in their places
-abbrev pub invariant-loop-place : goal.invariant-loop-place
-invariant-loop-place l = (length l.stacks ≡ 64) × ((k : ℕ) → k < l.place → (get_or l.stacks k nobody).row ≡ get_or l.rows k blank)
+abbrev pub invariant-loop-row : goal.invariant-loop-row
+invariant-loop-row l = (l.stacks.count ≡ l.row-index) × (length l.stacks.items ≡ 64) × ((k : ℕ) → k < l.row-index → (get_or l.stacks.items k nobody).row ≡ get_or l.rows k blank)

@@ -24,8 +24,8 @@ fallen m l i q never h =
     (λ s. (l.falls i q (m.high i) s (omega arith) (omega arith) (omega arith), l.falls i (m.low i + 1) q s (omega arith) (omega arith) (omega arith)))
     (sided m l i q h)
 
-pub returns-then-side-gt0 : goal.returns-then-side-gt0
-returns-then-side-gt0 g c =
+pub returns-then-is_generator : goal.returns-then-is_generator
+returns-then-is_generator g c =
     let m = g.B.OfferBook.meaning c.args.book.now in
     let l = g.met.B.OfferBook.lawful c.args.book.now in
     let first : c.price-first.result ≡ m.price c.args.participant (m.low c.args.participant + 1) = cc in
@@ -35,8 +35,8 @@ returns-then-side-gt0 g c =
       bounds = λ q h. let b = risen m l c.args.participant q (λ s. omega (arith, ints)) h in (omega (arith, ints), omega (arith, ints));
     }
 
-pub returns-else-side-gt0 : goal.returns-else-side-gt0
-returns-else-side-gt0 g c =
+pub returns-else-is_generator : goal.returns-else-is_generator
+returns-else-is_generator g c =
     let m = g.B.OfferBook.meaning c.args.book.now in
     let l = g.met.B.OfferBook.lawful c.args.book.now in
     let first : c.price-first.result ≡ m.price c.args.participant (m.low c.args.participant + 1) = cc in

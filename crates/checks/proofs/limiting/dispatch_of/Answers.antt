@@ -1,7 +1,7 @@
 use Rattle.std.proofs.Common.{◌≡◌, ◌≤◌, length, None, sym, ◌∙◌, arith, rules}
 use Rattle.std.proofs.lemmas.Bool.{true≢false, and_from, le-leb}
 use Rattle.checks.specs.Causes.{outside}
-use Rattle.checks.specs.First.{first_place}
+use Rattle.feasible.specs.First.{first_place}
 use Rattle.checks.specs.Pointed.{pointed}
 use Rattle.checks.proofs.Listed.{none_outside}
 use Rattle.checks.proofs.limiting.dispatch_of.Goals as goal

@@ -1,14 +1,10 @@
-use Rattle.std.proofs.Common.{sym, arith, rules}
-use Rattle.checks.specs.Causes.{dear}
-use Rattle.checks.proofs.First.{first_none, first_more, first_found}
+use Rattle.std.proofs.Common.{◌≡◌, ℕ, Bool, true, false, ltb, rules}
+use Rattle.std.proofs.lemmas.Iterator.{YieldsList-from_slice, IsFirst-from_position}
+use borrow.Author.Tests.{tests}
+use Rattle.checks.proofs.First.{first_in_list}
 use Rattle.checks.proofs.quoting.first_dear.Goals as goal
 
-pub loop-line-init : goal.loop-line-init
-loop-line-init c = first_none _
-
-pub returns-then-price-gt1000000 : goal.returns-then-price-gt1000000
-returns-then-price-gt1000000 c =
-    sym (first_found (dear c.args.prices.now) c.loop-line.line _ c.loop-line.invariant (search rules) (omega arith))
-
-pub loop-line-preserved : goal.loop-line-preserved
-loop-line-preserved c = first_more (dear c.args.prices.now) c.loop-line.line c.loop-line.invariant (search rules)
+pub returns : goal.returns
+returns c =
+    let test : ℕ → Bool = λ u. ltb 1000000 u in
+    first_in_list test c.args.prices.now _ (IsFirst-from_position _ _ _ (λ u. test u ≡ true) (λ u. test u ≡ false) c.position.ensures.ran (YieldsList-from_slice c.args.prices.now cc) (λ x q k. search (rules, tests)) (λ x q k. (search rules, search (rules, tests))))

@@ -1,7 +1,7 @@
 use Rattle.std.proofs.Common.{◌≡◌, length, None, sym, ◌∙◌, w32, to_z, of_z, rules}
 use Rattle.std.proofs.lemmas.Bool.{true≢false}
 use Rattle.checks.specs.Causes.{dear}
-use Rattle.checks.specs.First.{first_place}
+use Rattle.feasible.specs.First.{first_place}
 use Rattle.checks.proofs.Listed.{all_quotable}
 use Rattle.checks.proofs.quoting.quote_of.Goals as goal
 

@@ -1,7 +1,6 @@
-use Rattle.std.proofs.Common.{◌≡◌, ℕ, suc, ◌*◌, ◌<◌, ◌≤◌, ℤ, pos, negsuc, ◌*ℤ◌, ◌≤ℤ◌, refl, mul-le-mul, arith, w64, SFits, to_z}
-use Rattle.std.proofs.lemmas.Int.{ints, to_z-of_z, to_z_pos}
-use Rattle.std.specs.Int.{int_div_euclid}
-use Rattle.curve.specs.Line.{floor_div}
+use Rattle.std.proofs.Common.{◌≡◌, ℕ, suc, ◌*◌, ◌<◌, ◌≤◌, ℤ, pos, negsuc, ◌*ℤ◌, ◌≤ℤ◌, refl, mul-le-mul, arith, w64, SFits, to_z, of_z, ap, ◌∙◌}
+use Rattle.std.proofs.lemmas.Int.{ints, to_z-of_z}
+use Rattle.shelf.proofs.Quotient.{floor_is}
 use Rattle.curve.proofs.Straight.{part_up, part_down}
 use Rattle.curve.proofs.line.part_of.Goals as goal
 
@@ -15,26 +14,22 @@ product_fits (negsuc n) t a b h =
     let m : suc n * t ≤ 4294967296 * 65536 = mul-le-mul k h in
     omega (arith, ints)
 
-floor_is : (z : ℤ) (d : ℕ) → int_div_euclid z (pos d) ≡ floor_div z d
-floor_is (pos n) d = refl
-floor_is (negsuc n) d = refl
-
 -- a number below 2^16 keeps its value as a signed one
-plain : (n : ℕ) → n < 65536 → to_z w64 n ≡ pos n
-plain n h = to_z_pos w64 n (omega arith)
+wide : (n : ℕ) (z : ℤ) → z ≡ pos n → n < 65536 → to_z w64 (of_z w64 z) ≡ pos n
+wide n z e h = ap (λ y. to_z w64 (of_z w64 y)) e ∙ to_z-of_z w64 (pos n) (omega (arith, ints))
 
 pub overflow_mul-rise : goal.overflow_mul-rise
 overflow_mul-rise c =
-    rw (to_z-of_z w64 c.args.rise c.ranges.rise, plain c.args.along (omega arith))
+    rw (to_z-of_z w64 c.args.rise c.ranges.rise, wide c.args.along _ c.from.ensures (omega arith))
     (product_fits c.args.rise c.args.along c.requires.fits.0 c.requires.fits.1 (omega arith))
 
 pub div_euclid-requires : goal.div_euclid-requires
-div_euclid-requires c = rw (plain c.args.run (omega arith)) (record { nonzero = omega arith; no_overflow = λ e f. omega arith })
+div_euclid-requires c = rw (wide c.args.run _ c.from-2.ensures (omega arith)) (record { nonzero = omega arith; no_overflow = λ e f. omega arith })
 
 pub returns : goal.returns
 returns c =
     let fit = product_fits c.args.rise c.args.along c.requires.fits.0 c.requires.fits.1 (omega arith) in
-    let e = rw (to_z-of_z w64 c.args.rise c.ranges.rise, plain c.args.along (omega arith), to_z-of_z w64 _ fit, plain c.args.run (omega arith), floor_is) at c.div_euclid.ensures in
+    let e = rw (to_z-of_z w64 c.args.rise c.ranges.rise, wide c.args.along _ c.from.ensures (omega arith), to_z-of_z w64 _ fit, wide c.args.run _ c.from-2.ensures (omega arith), floor_is) at c.div_euclid.ensures in
     rw (to_z-of_z w64 c.div_euclid.result (record { sfits = c.div_euclid.type_inv }), e)
     (record {
       value = refl;

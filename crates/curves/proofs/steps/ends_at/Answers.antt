@@ -10,8 +10,8 @@ ahead : (m q : ℕ) (bs : List Block) (i : ℕ) → i < length bs → ends_at m 
 unfolding ends_at
 ahead m q bs i h = at_drop_more (λ r. ends_at m r q) bs i no_block h
 
-pub returns-then-end-level : goal.returns-then-end-level
-returns-then-end-level c =
+pub returns-then-end-from : goal.returns-then-end-from
+returns-then-end-from c =
     let h = ahead c.loop-block.end c.args.level c.args.blocks.now c.loop-block.block-index (omega arith) in
     grind (arith, nat_tests)
 

@@ -1,27 +1,16 @@
-use Rattle.std.proofs.Common.{◌≡◌, ℕ, ◌+◌, ◌<◌, ℤ, pos, ◌+ℤ◌, sym, add-one, arith, w64, SFits}
-use Rattle.std.proofs.lemmas.Int.{ints, to_z-of_z, to_z_pos}
-use Rattle.shelf.specs.Sum.{sum}
-use Rattle.shelf.proofs.Sum.{sum_none, sum_more}
+use Rattle.std.proofs.Common.{pos, ap, arith}
+use Rattle.std.proofs.lemmas.Int.{ints}
+use Rattle.market.proofs.Totals.{none, more}
 use Rattle.feasible.proofs.balancing.readings.Goals as goal
 
 pub loop-participant-init : goal.loop-participant-init
-loop-participant-init g c = (sym (sum_none _), omega (arith, ints), omega (arith, ints))
+loop-participant-init g c = (omega (arith, ints), none _ _)
 
 pub loop-participant-preserved : goal.loop-participant-preserved
 loop-participant-preserved g c =
-    let m = g.B.OfferBook.meaning c.args.book.now in
-    let n = c.loop-participant.participant in
-    let f : ℕ → ℤ = λ i. pos (m.reading i) in
-    let few : n < 64 = let a = g.met.B.OfferBook.few c.args.book.now in let b = c.count-participant-end.ensures in omega arith in
-    let more : sum (n + 1) f ≡ sum n f +ℤ f n = rw add-one (sum_more n f) in
-    let value = c.reading.ensures in
-    let near = g.met.B.OfferBook.readings c.args.book.now n in
-    let r = c.reading.result in
-    let t = c.loop-participant.total in
-    let inv = rw c.loop-participant.total-is at c.loop-participant.invariant in
-    let e = inv.0 in
-    let l = inv.1 in
-    let h = inv.2 in
-    let fit : SFits w64 (t +ℤ pos r) = omega (arith, ints) in
-    rw (c.loop-participant.total-is, to_z_pos w64 r (omega arith), to_z-of_z w64 (t +ℤ pos r) fit)
-    (omega (arith, ints), omega (arith, ints), omega (arith, ints))
+    let few = g.met.B.OfferBook.few c.args.book.now in
+    let count = c.count-participant-end.ensures in
+    let near = g.met.B.OfferBook.readings c.args.book.now c.loop-participant.participant in
+    let reading = c.reading.ensures in
+    let total = c.loop-participant.invariant in
+    (omega (arith, ints), more _ _ _ _ (pos c.reading.result) _ total.1 (ap pos reading) (omega (arith, ints)) (omega (arith, ints)) (omega (arith, ints)))

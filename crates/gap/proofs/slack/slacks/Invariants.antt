@@ -1,11 +1,10 @@
-use Rattle.std.proofs.Common.{◌≡◌, ◌*◌, pos, neg_ℤ, ◌≤ℤ◌}
 use Rattle.network.specs.Sheet.{sheet_of}
 use Rattle.market.specs.Quoted.{prices_of}
-use Rattle.feasible.specs.Stages.{step_of}
-use Rattle.gap.specs.Slack.{slack_up}
+use Rattle.market.proofs.Totals.{Total}
+use Rattle.feasible.specs.Stages.{held_to}
+use Rattle.gap.specs.Slack.{slack_at}
 use Rattle.gap.proofs.slack.slacks.Given as goal
 
 abbrev pub invariant-loop-line : goal.invariant-loop-line
 invariant-loop-line g l =
-    (l.total ≡ slack_up (g.N.Network.meaning l.network) (step_of l.constraints l.stage) (prices_of l.quote) (sheet_of l.sheet) l.line)
-    × (neg_ℤ (pos (l.line * 82920000000000000)) ≤ℤ l.total) × (l.total ≤ℤ pos (l.line * 82920000000000000))
+    Total 82920000000000000 (slack_at (g.N.Network.meaning l.network) (held_to l.step) (prices_of l.quote) (sheet_of l.sheet)) l.line l.total

@@ -1,50 +1,32 @@
-use Rattle.std.proofs.Common.{◌≡◌, ◌+◌, sym, ap, ◌∙◌, ⊎_elim, arith, w32, SFits}
+use Rattle.std.proofs.Common.{◌≡◌, suc, ◌+◌, ◌-◌, ap, ◌∙◌, arith}
 use Rattle.std.proofs.lemmas.Int.{ints}
-use Rattle.std.proofs.lemmas.Bool.{cases_lt}
-use Rattle.market.specs.Market.{cost}
-use Rattle.market.proofs.Costs.{cost_none, cost_more}
+use Rattle.shelf.specs.Sum.{sum}
+use Rattle.market.proofs.Totals.{none_at, more_to}
 use Rattle.market.proofs.valuing.cost.Goals as goal
 
 pub loop-below-init : goal.loop-below-init
-loop-below-init g c =
-    let m = g.B.OfferBook.meaning c.args.book.now in
-    let e = c.low-below.ensures in
-    (sym (cost_none m c.args.participant c.low-below.result (omega arith)), omega arith, omega arith, omega (arith, ints), omega (arith, ints))
+loop-below-init g c = let low = c.low-below.ensures in (omega arith, omega arith, none_at _ _ _ (omega arith))
 
 pub loop-below-preserved : goal.loop-below-preserved
 loop-below-preserved g c =
     let m = g.B.OfferBook.meaning c.args.book.now in
     let i = c.args.participant in
     let q = c.loop-below.below in
-    let v = c.loop-below.invariant.0 in
-    let l = c.loop-below.invariant.1 in
-    let o = c.loop-below.invariant.2 in
-    let a = c.loop-below.invariant.3 in
-    let b = c.loop-below.invariant.4 in
-    let more = cost_more m i q l in
-    let p = c.price.ensures in
     let least = g.met.B.OfferBook.least c.args.book.now i (q + 1) in
     let most = g.met.B.OfferBook.most c.args.book.now i (q + 1) in
-    let high = g.met.B.OfferBook.highest c.args.book.now i in
-    let limit = g.met.B.OfferBook.limits c.args.book.now i in
-    let fits : SFits w32 c.price.result = record { sfits = c.price.type_inv } in
-    (omega (arith, ints), omega arith, omega arith, omega (arith, ints), omega (arith, ints))
+    let price = c.price.ensures in
+    let total = c.loop-below.invariant.2 in
+    let place : q + 1 ≡ suc (m.low i + (q - m.low i)) = omega arith in
+    (omega arith, omega arith, more_to _ _ _ _ _ c.price.result _ total (omega arith) (price ∙ ap (m.price i) place) (omega (arith, ints)) (omega (arith, ints)) (omega (arith, ints)))
 
 pub returns : goal.returns
 returns g c =
     let m = g.B.OfferBook.meaning c.args.book.now in
     let i = c.args.participant in
-    let q = c.loop-below.below in
-    let v = c.loop-below.invariant.0 in
-    let l = c.loop-below.invariant.1 in
-    let o = c.loop-below.invariant.2 in
-    let a = c.loop-below.invariant.3 in
-    let b = c.loop-below.invariant.4 in
-    let high = g.met.B.OfferBook.highest c.args.book.now i in
-    let limit = g.met.B.OfferBook.limits c.args.book.now i in
-    let same : cost m i q ≡ cost m i c.args.level =
-    ⊎_elim
-    (λ s. let e : q ≡ c.args.level = omega arith in ap (cost m i) e)
-    (λ s. cost_none m i q (omega arith) ∙ sym (cost_none m i c.args.level s))
-    (cases_lt (m.low i) c.args.level) in
-    record { value = omega (arith, ints); least = omega (arith, ints); most = omega (arith, ints) }
+    let total = c.loop-below.invariant.2 in
+    let e : c.loop-below.below - m.low i ≡ c.args.level - m.low i = omega arith in
+    record {
+      value = total.value ∙ ap (λ n. sum n (λ t. m.price i (suc (m.low i + t)))) e;
+      least = omega (arith, ints);
+      most = omega (arith, ints);
+    }

@@ -1,10 +1,10 @@
-use Rattle.std.proofs.Common.{arith}
-use Rattle.measure.proofs.Listed.{one_filled, all_filled}
+use Rattle.std.proofs.Common.{rules}
+use Rattle.market.proofs.Filled.{filled}
+use Rattle.measure.specs.Widest.{point_of}
+use Rattle.measure.proofs.Listed.{is_listed}
 use Rattle.measure.proofs.offers.points.Goals as goal
 
-pub loop-place-preserved : goal.loop-place-preserved
-loop-place-preserved c =
-    one_filled _ 10 c.loop-place.place c.loop-place.points _ (omega arith) c.point.ensures c.loop-place.invariant
-
 pub returns : goal.returns
-returns c = all_filled _ 10 c.loop-place.place c.loop-place.points (omega arith) c.loop-place.invariant
+returns c =
+    let made = c.from_fn.ensures.items in
+    is_listed (point_of c.args.prices.now c.args.participant) c.from_fn.result 10 made.long (λ k d h. filled _ (point_of c.args.prices.now c.args.participant) _ (λ i x q r. search rules) _ 10 k d made h)

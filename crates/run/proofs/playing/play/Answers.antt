@@ -37,8 +37,8 @@ loop-place-preserved g c =
     let states : State → Type 0 = λ s. Turn c.new-run.result.book.book c.new-run.result.network s in
     let turn = subst states inv.2 (subst networks inv.1 (subst books inv.0 (c.fault_of.ensures.told, c.fault_of.ensures.left))) in
     let noted : List (Option Fault) → Type 0 = λ written. Noted None (answer_at m n calls) (i + 1) c.args.answers.now written in (
-      c.fault_of.ensures.book ∙ inv.0,
-      c.fault_of.ensures.network ∙ inv.1,
+      c.fault_of.ensures.market.book ∙ inv.0,
+      c.fault_of.ensures.market.network ∙ inv.1,
       turn.1 ∙ sym (call_leaves m n call (reverse (take i calls))) ∙ ap (leaves m n) (sym (newest_more calls i no_call here)),
       subst noted (sym c.note.ensures) (noted_more None (answer_at m n calls) i c.args.answers.now c.loop-place.answers inv.3 c.fault_of.result turn.0),
     )

@@ -9,18 +9,18 @@ ahead : (bs : List ℕ) (i n : ℕ) → i < length bs → digits_after n (drop i
 unfolding digits_after
 ahead bs i n h = at_drop_more (digits_after n) bs i 0 h
 
-pub returns-then-digit-lt48 : goal.returns-then-digit-lt48
-returns-then-digit-lt48 c =
-    let h = ahead c.args.word.now c.loop-byte.byte-index c.loop-byte.number (omega arith) in
+pub returns-then-not-is_ascii_digit : goal.returns-then-not-is_ascii_digit
+returns-then-not-is_ascii_digit c =
+    let h = ahead c.args.word.now c.loop-digit.digit-index c.loop-digit.number (omega arith) in
     grind (arith, nat_tests)
 
-pub loop-byte-preserved : goal.loop-byte-preserved
-loop-byte-preserved c =
-    let h = ahead c.args.word.now c.loop-byte.byte-index c.loop-byte.number (omega arith) in
+pub loop-digit-preserved : goal.loop-digit-preserved
+loop-digit-preserved c =
+    let h = ahead c.args.word.now c.loop-digit.digit-index c.loop-digit.number (omega arith) in
     grind (arith, nat_tests)
 
 pub returns : goal.returns
 unfolding digits_after
 returns c =
-    let h = at_drop_all (digits_after c.loop-byte.number) c.args.word.now c.loop-byte.byte-index (omega arith) in
+    let h = at_drop_all (digits_after c.loop-digit.number) c.args.word.now c.loop-digit.digit-index (omega arith) in
     grind (arith, nat_tests)

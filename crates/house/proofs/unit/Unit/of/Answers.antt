@@ -1,12 +1,12 @@
-use Rattle.std.proofs.Common.{◌≡◌, ℕ, ◌≤◌, pos, ◌*ℤ◌, ◌≤ℤ◌, is_err, Ok, sym, ap, ◌∙◌, subst, w8, to_z, of_z}
-use Rattle.std.proofs.lemmas.Int.{to_z-of_z}
+use Rattle.std.proofs.Common.{◌≡◌, ℕ, ◌≤◌, ◌≤ℤ◌, is_err, Ok, sym, ap, ◌∙◌, subst}
 use Rattle.std.proofs.lemmas.Bool.{true≢false}
 use Rattle.book.specs.Meaning.{least_price, most_price}
+use Rattle.book.specs.Sides.{sign_of}
 use Rattle.curve.specs.Complete.{Sound, price_on, row_price}
 use Rattle.rows.specs.Classes.{class_of}
 use Rattle.rows.specs.declared.rule.Rule.TheVariants.{Letter}
 use Rattle.house.specs.Unit.{side_of}
-use Rattle.house.proofs.Owed.{unit_limits, unit_bus, unit_reading, unit_sided, unit_unread, unit_moves}
+use Rattle.house.proofs.Owed.{unit_limits, unit_bus, unit_reading, unit_unread, unit_moves}
 use Rattle.house.proofs.unit.Unit.of.Goals as goal
 
 pub returns-in_err-class : goal.returns-in_err-class
@@ -16,8 +16,8 @@ module _ (c : goal.After-side_of) where
   class_is : class_of c.args.row.now.letter ≡ Ok c.in_ok-class.class
   class_is = sym c.in_ok-class.ensures
 
-  side_is : to_z w8 (of_z w8 c.side_of.result) ≡ side_of c.in_ok-class.class
-  side_is = to_z-of_z w8 _ (record { sfits = c.side_of.type_inv }) ∙ c.side_of.ensures
+  side_is : sign_of c.side_of.result ≡ side_of c.in_ok-class.class
+  side_is = c.side_of.ensures
 
   prices : (q : ℕ) → price_on c.in_ok-curve.curve q ≡ row_price c.args.offer_cap.cents c.args.row.now q
   prices = c.in_ok-curve.ensures.prices
@@ -32,7 +32,6 @@ pub invariant_of-result : goal.invariant_of-result
 invariant_of-result c =
     record {
       there = unit_bus c.args.offer_cap.cents c.args.row.now c.requires;
-      sided = subst (λ s. (s *ℤ s) ≡ pos 1) (sym (side_is c)) (unit_sided c.args.offer_cap.cents c.args.row.now _ (class_is c));
       limits = (limits c).0;
       highest = (limits c).1;
       readings = subst (λ n. n ≤ 20000) (sym c.reading_of-reading.ensures) (unit_reading c.args.offer_cap.cents c.args.row.now c.requires);

@@ -1,20 +1,24 @@
-use Rattle.std.proofs.Common.{◌≡◌, ℕ, zero, suc, ◌≤◌, true, leb, List, [], ◌∷◌, get_or, sym, subst, arith, rules}
+use Rattle.std.proofs.Common.{◌≡◌, ℕ, ◌≤◌, true, List, ap, sym, get_or, slice_index, arith, rules}
 use Rattle.std.proofs.lemmas.Int.{ints}
-use Rattle.std.proofs.lemmas.Bool.{and_parts, leb-true}
+use Rattle.dispatch.proofs.Reach.{whole, all_within}
 use Rattle.market.specs.Quoted.{payable}
 use Rattle.market.proofs.quote.Quote.new.Goals as goal
 
 payable_each : (us : List ℕ) → payable us ≡ true → (k : ℕ) → get_or us k 0 ≤ 1000000
 unfolding payable
-payable_each [] e k = omega arith
-payable_each (u ∷ us) e zero = leb-true u 1000000 (and_parts (leb u 1000000) (payable us) e).0
-payable_each (u ∷ us) e (suc k) = payable_each us (and_parts (leb u 1000000) (payable us) e).1 k
+payable_each us e k = all_within 1000000 us e k
 
 pub invariant_of-result : goal.invariant_of-result
 invariant_of-result c =
-    record {
+    let shadow = c.args.shadow.now in
+    rw (whole 32 shadow c.new-prices.ensures.none c.append.ensures.list (omega arith))
+    (record {
       least = omega (arith, ints);
       most = omega (arith, ints);
-      lines = search rules;
-      shadows = λ k. subst (λ n. n ≤ 1000000) (sym (c.padded.ensures k)) (payable_each c.args.shadow.now (sym c.if-not-all_payable.ensures) k);
-    }
+      shadows = payable_each shadow (sym c.if-not-all_payable.ensures);
+    })
+
+pub returns : goal.returns
+returns c =
+    let shadow = c.args.shadow.now in
+    (search rules, search rules, λ k. ap (λ us. slice_index us k) (whole 32 shadow c.new-prices.ensures.none c.append.ensures.list (omega arith)))

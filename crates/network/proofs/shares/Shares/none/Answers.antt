@@ -1,7 +1,8 @@
-use Rattle.std.proofs.Common.{refl}
-use Rattle.network.specs.Table.{no_shares}
+use Rattle.std.proofs.Common.{refl, arith}
+use Rattle.std.proofs.lemmas.Int.{ints}
+use Rattle.network.proofs.Zeros.{zero_at}
 use Rattle.network.proofs.shares.Shares.none.Goals as goal
 
 pub invariant_of-result : goal.invariant_of-result
-unfolding no_shares
-invariant_of-result c = record { buses = refl; least = no_shares.least; most = no_shares.most }
+invariant_of-result c =
+    record { buses = refl; least = λ b. omega (arith, ints, zero_at b); most = λ b. omega (arith, ints, zero_at b) }

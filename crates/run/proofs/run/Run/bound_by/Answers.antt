@@ -25,17 +25,19 @@ returns g c =
     let terms = ap (λ l. l.terms) set in
     record {
       bounded = bounded;
-      state = λ j. record {
-        force = record {
-          requirement = (force_of run).requirement;
-          tolerance = (force_of run).tolerance;
-          amount = (force_of run).amount;
-          competitive = (force_of run).competitive;
-          terms = terms j;
+      still = record {
+        state = λ j. record {
+          force = record {
+            requirement = (force_of run).requirement;
+            tolerance = (force_of run).tolerance;
+            amount = (force_of run).amount;
+            competitive = (force_of run).competitive;
+            terms = terms j;
+          };
+          first = (state_of run).first;
+          second = (state_of run).second;
         };
-        first = (state_of run).first;
-        second = (state_of run).second;
+        book = c.refer.ensures.same;
+        network = refl;
       };
-      book = c.refer.ensures.same;
-      network = refl;
     }

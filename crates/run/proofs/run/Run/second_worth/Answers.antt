@@ -20,9 +20,7 @@ returns-in-Some g c =
       value =
           to_z-of_z w64 c.bounded_worth.result (record { sfits = c.bounded_worth.type_inv }) ∙ c.bounded_worth.ensures.value
           ∙ sym (ap (λ o. worth (priced_book m n (force_of run) (option_map held_of o) Second) x) c.in-Some.is);
-      state = c.bounded_worth.ensures.state;
-      book = c.bounded_worth.ensures.book;
-      network = c.bounded_worth.ensures.network;
+      still = c.bounded_worth.ensures.still;
     }
 
 pub returns-in-None : goal.returns-in-None
@@ -37,7 +35,5 @@ returns-in-None g c =
           ∙ ap (λ k. worth (g.B.OfferBook.meaning k) x) c.below.ensures
           ∙ ap (λ b. worth b x) (sym (layered_plain m (layer_in m n (force_of run) None) refl))
           ∙ sym (ap (λ o. worth (priced_book m n (force_of run) (option_map held_of o) Second) x) c.in-None.is);
-      state = refl;
-      book = refl;
-      network = refl;
+      still = record { state = refl; book = refl; network = refl };
     }

@@ -42,6 +42,5 @@ returns g c =
             first = s.first;
             second = None;
           });
-      book = c.set_term.ensures.same;
-      network = refl;
+      market = record { book = c.set_term.ensures.same; network = refl };
     }

@@ -18,9 +18,7 @@ returns-in-First g c =
       value =
           held_worth m n (state_of run) c.args.stage First c.held.result h (to_z w64 (of_z w64 z)) c.held.ensures c.in_ok-held.was c.in-First.is
           (to_z-of_z w64 z (record { sfits = c.worth.type_inv }) ∙ c.worth.ensures.value ∙ ap (λ k. worth (g.B.OfferBook.meaning k) (base_of h.dispatch)) c.below.ensures);
-      state = refl;
-      book = refl;
-      network = refl;
+      still = record { state = refl; book = refl; network = refl };
     }
 
 pub returns-in-Second : goal.returns-in-Second
@@ -34,7 +32,5 @@ returns-in-Second g c =
       value =
           held_worth m n (state_of run) c.args.stage Second c.held.result h (to_z w64 (of_z w64 z)) c.held.ensures c.in_ok-held.was c.in-Second.is
           (to_z-of_z w64 z (record { sfits = c.second_worth.type_inv }) ∙ c.second_worth.ensures.value);
-      state = c.second_worth.ensures.state;
-      book = c.second_worth.ensures.book;
-      network = c.second_worth.ensures.network;
+      still = c.second_worth.ensures.still;
     }

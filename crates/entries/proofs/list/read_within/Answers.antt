@@ -1,0 +1,28 @@
+use Rattle.std.proofs.Common.{◌+◌, [], ◌∷◌, ◌++◌, ap, ◌∙◌, refl, arith}
+use Rattle.std.proofs.lemmas.List.{length-append}
+use Rattle.entries.specs.Entries.{Lists}
+use Rattle.entries.proofs.Taken.{reads_none, reads_more}
+use Rattle.entries.proofs.list.read_within.Goals as goal
+
+pub loop-word-init : goal.loop-word-init
+loop-word-init g c =
+    rw (c.into_iter-word-iterator.ensures.into_iter_gives) ([], reads_none _ _, omega arith, c.new-list.ensures.count, c.new-list.ensures.none)
+
+pub loop-word-preserved : goal.loop-word-preserved
+loop-word-preserved g c =
+    let (entries, reads, few, count, table) = c.loop-word.invariant in
+    let more = c.in_ok-add.ensures.count in
+    let room = c.in_ok-add.ensures.room in
+    let entry = c.in_ok-read.field-0 in (
+      entries ++ entry ∷ [],
+      reads_more _ _ entries _ c.in-Some.word.now _ entry reads c.in-Some.ensures.steps (record { shown = c.in-Some.word; shows = refl; says = record { met = c.in_ok-read.ensures } }),
+      rw (length-append entries (entry ∷ [])) (omega (arith, count, room.0)),
+      rw (length-append entries (entry ∷ [])) (more ∙ ap (λ n. n + 1) count),
+      room.1 ∙ ap (λ es. es ++ entry ∷ []) table,
+    )
+
+pub returns : goal.returns
+unfolding Lists
+returns g c =
+    let (entries, reads, few, count, table) = c.loop-word.invariant in
+    (entries, (_, reads, c.in-None.ensures.steps), few, count, table)

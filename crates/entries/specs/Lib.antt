@@ -1,0 +1,5 @@
+pub mod Entries
+pub mod Numbers
+pub mod Priced
+pub mod Rows
+pub mod Terms

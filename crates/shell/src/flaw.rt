@@ -1,0 +1,47 @@
+// What is wrong with a line of a script.
+
+use std::error::Error;
+use std::fmt;
+use words::Mistake;
+
+#[derive(Clone, Copy, Debug, PartialEq, Eq)]
+pub enum Flaw {
+    Form(Mistake),
+    NotText,
+    NoBook,
+    NoCap,
+    SecondCap,
+    Mixed,
+    Late,
+    RowAfterLines,
+    LineAfterBase,
+    RowAfterTerms,
+    SecondReference,
+    PriceCount,
+}
+
+impl fmt::Display for Flaw {
+    ghost use Rattle.std.specs.Prelude.{Some};
+    ghost use Rattle.shell.specs.Flaws.{flaw_reason};
+
+    ghost output = { λ flaw. Some (flaw_reason flaw) };
+
+    fn fmt<W: fmt::Write>(&self, f: &mut fmt::Formatter<W>) -> fmt::Result {
+        f.write_str(match self {
+            Flaw::Form(mistake) => return mistake.fmt(f),
+            Flaw::NotText => "not text",
+            Flaw::NoBook => "neither cap nor block",
+            Flaw::NoCap => "no cap",
+            Flaw::SecondCap => "a second cap",
+            Flaw::Mixed => "house rows and blocks in one book",
+            Flaw::Late => "book and network come first",
+            Flaw::RowAfterLines => "a row after a line or base points",
+            Flaw::LineAfterBase => "a line after base points",
+            Flaw::RowAfterTerms => "a row after terms or reference prices",
+            Flaw::SecondReference => "a second line of reference prices",
+            Flaw::PriceCount => "not one reference price for each row",
+        })
+    }
+}
+
+impl Error for Flaw {}

@@ -1,7 +1,0 @@
-use Rattle.std.proofs.Common.{rules}
-use Rattle.words.specs.Next.{Next, Spent}
-use Rattle.words.proofs.line.Words.first.Goals as goal
-
-pub returns : goal.returns
-unfolding Next Spent
-returns c = search rules
