@@ -19,7 +19,8 @@ fn is_outside<B: OfferBook>(book: &B, points: &[u16], participant: usize) -> boo
     point < book.low(participant) || point > book.high(participant)
 }
 
-// The first participant whose base point lies outside its limits.
+// The first participant whose base point lies outside its limits. These points are no dispatch yet, which `feasible` asks
+// of its own search: they may be greater than any dispatch holds.
 fn first_outside<B: OfferBook>(book: &B, points: &[u16]) -> Option<usize>
     ensures { result ≡ first_place (outside (B.OfferBook.meaning book.now) (pointed points.now)) (length points.now) }
 {

@@ -13,7 +13,8 @@ use fault::{Cause, Fault};
 use feasible::{Step, balanced, first_overloaded};
 use network::Network;
 
-// The balance is met, and no observed line carries more than its limit.
+// The balance is met, and no observed line carries more than its limit. Limits were looked at before there was a dispatch:
+// by `infeasible` they would be looked at again.
 fn check_network<B: OfferBook, N: Network>(
     book: &B,
     network: &N,

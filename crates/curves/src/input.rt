@@ -20,6 +20,7 @@ use words::Mistake;
 pub(crate) struct Input {
     // how many lines were read
     lines: usize,
+    // a cap and rows, or blocks: which of the two is known only from the first of them, so an enum would have a third case
     cap: Option<u32>,
     rows: Vec<Row>,
     blocks: Vec<BlockRow>,
@@ -71,10 +72,7 @@ impl Input {
     pub(crate) fn cap(&self) -> Result<u32, Stop>
         ensures { MatchResult result (λ cents. self.now.cap ≡ Some cents) (λ s. (self.now.cap ≡ None) × (s ≡ Malformed self.now.lines NoCap)) }
     {
-        match self.cap {
-            Some(cents) => Ok(cents),
-            None => self.flawed(Flaw::NoCap),
-        }
+        self.cap.ok_or(Stop::Malformed(self.lines, Flaw::NoCap))
     }
 
     pub(crate) fn read(&mut self, line: &str) -> Result<(), Stop> {
@@ -105,7 +103,8 @@ impl Input {
         Err(Stop::Malformed(self.lines, flaw))
     }
 
-    // Each of the three programs holds its lines to an order of its own, so each puts a line away by itself.
+    // Each of the three programs keeps lists of its own and holds its lines to an order of its own. What is alike in two of
+    // them, as this and the number of the last line, looks at those lists or names their flaws.
     fn set_cap(&mut self, cents: u32) -> Result<(), Stop>
         ensures first { OnOk result ((self.old.cap ≡ None) × (self.new.cap ≡ Some cents)) }
         ensures again { IfErr result (λ s. s ≡ Malformed self.old.lines (if is_some self.old.cap then SecondCap else Mixed)) }

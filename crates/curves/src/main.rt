@@ -32,6 +32,7 @@ fn run(rt: &HostRuntime) -> Result<(), Stop> {
     }
 }
 
+// Each program has an input of its own type: a trait for the three would be longer than this.
 fn read_input(rt: &HostRuntime) -> Result<Input, Stop> {
     let mut input = Input::new(rt.alloc());
     read_lines(rt, |line| match line {

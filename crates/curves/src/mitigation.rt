@@ -46,8 +46,8 @@ fn term_of(count: usize, line: &ParticipantTerm) -> Result<Term, Fault>
     if line.participant >= count {
         return Err(Fault::new(Cause::Absent, line.participant));
     }
-    match Term::new(line.floor, line.ceiling, line.adder, line.subject) {
-        Some(term) => Ok(term),
-        None => Err(Fault::new(Cause::Amount, line.participant)),
-    }
+    Term::new(line.floor, line.ceiling, line.adder, line.subject).ok_or(Fault::new(
+        Cause::Amount,
+        line.participant,
+    ))
 }

@@ -14,6 +14,7 @@ pub(crate) fn print_participant<B: OfferBook, C: Corners>(
     book: &Bounded<B>,
     participant: usize,
     corners: &C,
+    // asked here, since both callers would have to ask before the same second call
     is_bounded: bool,
 ) -> io::Result<()> {
     let plain = book.below();

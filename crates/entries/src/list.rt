@@ -9,6 +9,8 @@ ghost use Rattle.entries.specs.Entries.{Counted, Within};
 use given::Given;
 use words::{Mistake, Words};
 
+// Two loops, since one goes on where there is no room and one ends; a loop for both would be told which by a switch.
+
 // Every entry is counted, and as many are kept as there is room for.
 pub(crate) fn read_counted<T: Copy, const N: usize, F: Fn(&str) -> Result<T, Mistake>>(
     words: Words,

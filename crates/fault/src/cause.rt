@@ -62,10 +62,20 @@ impl Cause {
     pub fn layer(self) -> Layer
         ensures { result ≡ layer_of self }
     {
-        match self.number() {
-            0..=9 => Layer::Book,
-            10 | 11 => Layer::Network,
-            22..=25 => Layer::Folio,
+        match self {
+            Cause::OfferCap
+            | Cause::RowCount
+            | Cause::ClassLetter
+            | Cause::BusNumber
+            | Cause::UnitLimits
+            | Cause::PointCount
+            | Cause::CurveLevels
+            | Cause::CurvePrices
+            | Cause::Reading => Layer::Book,
+            Cause::LineCount | Cause::ShareRange => Layer::Network,
+            Cause::Contents | Cause::FolioLength | Cause::Padding | Cause::RecordCounts => {
+                Layer::Folio
+            }
             _ => Layer::Run,
         }
     }

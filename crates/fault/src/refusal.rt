@@ -21,13 +21,12 @@ impl Fault {
         ensures value { result ≡ written_answer (refusal_line self) buffer.old }
         ensures after { buffer.new ≡ written_bytes (refusal_line self) buffer.old }
     {
-        match self.told().copy_to(buffer, 0) {
-            Some(end) => Ok(end),
-            None => Err(Fault::new(Cause::ShortBuffer, 0)),
-        }
+        self.told()
+            .copy_to(buffer, 0)
+            .ok_or(Fault::new(Cause::ShortBuffer, 0))
     }
 
-    // Piece by piece: a line that is full drops what comes, and so is no writer that a format could write to.
+    // Piece by piece: a line that is full drops what comes, and so is no writer that the format below could write to.
     fn told(self) -> Line
         ensures { text_of result ≡ refusal_line self }
     {

@@ -2,6 +2,7 @@
 use Rattle.std.specs.Prelude.{ℕ, zero, suc, Bool, cond, Some, None, Option}
 use Rattle.std.specs.Option.{option_map}
 use Rattle.fault.specs.First.{or_else}
+use Rattle.fault.specs.Rules.{fault}
 use Rattle.fault.specs.declared.cause.Cause.{Cause}
 use Rattle.fault.specs.declared.cause.Fault.{Fault}
 
@@ -9,9 +10,6 @@ use Rattle.fault.specs.declared.cause.Fault.{Fault}
 unfoldable pub first_place : (ℕ → Bool) → ℕ → Option ℕ
 first_place test zero = None
 first_place test (suc n) = or_else (first_place test n) (cond (test n) (Some n) None)
-
-abbrev pub fault : Cause → ℕ → Fault
-fault c place = record { cause = c; place = place }
 
 -- the cause at the place, if there is one
 abbrev pub placed : Cause → Option ℕ → Option Fault

@@ -7,7 +7,8 @@ use Rattle.fault.specs.declared.cause.Fault.{Fault}
 use Rattle.market.specs.Market.{Step}
 use Rattle.feasible.specs.declared.constraints.Constraints.{Constraints}
 use Rattle.feasible.specs.declared.limit.Limit.{Limit}
-use Rattle.feasible.specs.First.{fault, unless}
+use Rattle.fault.specs.Rules.{fault}
+use Rattle.feasible.specs.First.{unless}
 use Rattle.feasible.specs.declared.stage.Stage.{Stage}
 use Rattle.feasible.specs.declared.stage.Stage.TheVariants.{First, Second}
 use Rattle.feasible.specs.declared.step.Step as Held

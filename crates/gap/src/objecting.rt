@@ -17,7 +17,8 @@ pub struct Objections {
     pub next: bool,
 }
 
-// The two tests differ in the limit, the tenth and the sign: one function for both would take all three.
+// The two tests differ in the limit, the tenth and the sign: one function for both would take all three. Prices and
+// dispatch stay two parameters, as book and network do: each is asked by itself below.
 fn last_objects<B: OfferBook, N: Network>(
     book: &B,
     network: &N,

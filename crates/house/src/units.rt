@@ -13,6 +13,7 @@ use curve::Curve;
 use fault::Fault;
 use rows::{Class, OfferCap, Row};
 
+// Neither type is of this crate, so this is no `From`.
 fn side_of(class: Class) -> Side
     ensures { sign_of result ≡ side_of class }
 {

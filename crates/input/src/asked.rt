@@ -4,11 +4,11 @@ use calls::{BasePoints, Proposal};
 
 #[derive(Clone, Copy)]
 pub enum Asked {
-    // the answer to the call at this place in the list
+    // the answer to the call at this place in the list: the calls lie apart, since a run is played on a slice of them
     Call(usize),
     // a proposal, weighed after so many calls
     Weigh(usize, Proposal),
-    // the step of this number, listed after so many calls
+    // the step of this number, as it was asked for, listed after so many calls
     Listing(usize, u8),
     Base(BasePoints),
 }

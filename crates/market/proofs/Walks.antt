@@ -1,5 +1,5 @@
 -- Gains along a walk.
-use Rattle.std.proofs.Common.{◌≡◌, ℕ, suc, ◌+◌, ◌-◌, ◌*◌, ◌<◌, ◌≤◌, ℤ, pos, ◌+ℤ◌, ◌-ℤ◌, neg_ℤ, ◌≤ℤ◌, sym, ap, ◌∙◌, subst, arith, w64, SFits}
+use Rattle.std.proofs.Common.{◌≡◌, ℕ, suc, ◌+◌, ◌-◌, ◌*◌, ◌<◌, ◌≤◌, ℤ, pos, ◌+ℤ◌, ◌-ℤ◌, neg_ℤ, ◌≤ℤ◌, sym, ap, ◌∙◌, subst, arith}
 use Rattle.std.proofs.lemmas.Int.{ints}
 use Rattle.shelf.specs.Sum.{sum}
 use Rattle.shelf.proofs.Sum.{sum_more}
@@ -21,9 +21,6 @@ pub record Made (m : Book) (price : ℤ) (i from q n : ℕ) (t : ℤ) : Type 0 w
   pub least : pos 0 ≤ℤ t
   pub most : t ≤ℤ pos (n * 34000000000)
 
-pub stays : (m : Book) (price : ℤ) (i from : ℕ) → Made m price i from from 0 (pos 0)
-stays m price i from = record { gained = omega (arith, ints); least = omega (arith, ints); most = omega (arith, ints) }
-
 pub walked : (m : Book) (price : ℤ) (i from q n : ℕ) (t : ℤ) → n ≤ 20000 → Made m price i from q n t → Walked m price i from q t
 walked m price i from q n t few a =
     let l = a.least in
@@ -32,12 +29,6 @@ walked m price i from q n t few a =
 
 -- one tenth more makes the total greater by what it makes
 module _ (m : Book) (price : ℤ) (i from q n : ℕ) (t r : ℤ) (a : Made m price i from q n t) (least : pos 0 ≤ℤ r) (most : r ≤ℤ pos 34000000000) where
-  pub fits : n < 20000 → SFits w64 (t +ℤ r)
-  fits few =
-      let l = a.least in
-      let h = a.most in
-      omega (arith, ints)
-
   pub further : (p k : ℕ) → k ≡ n + 1 → gains_up m price i p ≡ gains_up m price i q +ℤ r → Made m price i from p k (t +ℤ r)
   further p k e u =
       let g = a.gained in

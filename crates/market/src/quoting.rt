@@ -12,6 +12,7 @@ const MOST_SYSTEM: i32 = 1_000_000;
 // The greatest shadow price.
 const MOST_SHADOW: u32 = 1_000_000;
 
+// Base points are held to their greatest by such a line too: a function for both would be as long as either.
 #[tactic(auto, unfolding(crate::specs::Quoted::payable))]
 fn all_payable(shadow: &[u32]) -> bool
     ensures { result ≡ payable shadow.now }

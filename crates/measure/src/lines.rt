@@ -12,7 +12,7 @@ fn line_at(shares: &[i16], line: usize) -> [i16; 64]
     array::from_fn(|bus| shares.get(64 * line + bus).copied().unwrap_or(0))
 }
 
-// The lines of these shares, 64 for each line.
+// The lines of these shares, 64 for each line: the C interface hands over flat lists.
 pub(crate) fn lines_of(shares: &[i16]) -> [[i16; 64]; 32]
     ensures { result ≡ lines_of shares.now }
 {

@@ -7,7 +7,8 @@ use given::Given;
 use rows::{Point, Row};
 use std::array;
 
-// The point at a place of a participant.
+// The point at a place of a participant. That there are 64 is asked of a number here and below: a type for it would have
+// to be made from a number just so.
 fn point(prices: &[i32], participant: usize, place: usize) -> Point
     requires there { participant < 64 }
     requires few { place < 10 }

@@ -5,7 +5,7 @@ use Rattle.fault.specs.declared.cause.Fault.{Fault}
 use Rattle.calls.specs.declared.call.Proposal.{Proposal}
 use Rattle.book.specs.Meaning.{Book}
 use Rattle.network.specs.Grid.{Grid}
-use Rattle.feasible.specs.First.{fault}
+use Rattle.fault.specs.Rules.{fault}
 use Rattle.feasible.specs.Stages.{step_of}
 use Rattle.feasible.specs.declared.constraints.Constraints.{Constraints}
 use Rattle.feasible.specs.declared.stage.Stage.{Stage}

@@ -2,7 +2,7 @@
 
 ghost use Rattle.std.specs.Prelude.{◌≡◌, Some, MatchOption, MatchResult};
 ghost use Rattle.fault.specs.declared.cause.Cause.TheVariants.{NotHeld};
-ghost use Rattle.feasible.specs.First.{fault};
+ghost use Rattle.fault.specs.Rules.{fault};
 ghost use Rattle.feasible.specs.Stages.{stage_named};
 ghost use Rattle.run.specs.View.{state_of};
 ghost use Rattle.replay_runs.specs.Listing.{Lists, Unlisted};

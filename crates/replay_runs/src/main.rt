@@ -12,6 +12,7 @@ mod weighing;
 
 use answering::carry_out;
 use block::BlockBook;
+use book::OfferBook;
 use house::HouseBook;
 use input::Input;
 use network::{Network, TableNetwork};
@@ -30,6 +31,7 @@ fn run(rt: &HostRuntime) -> Result<(), Stop> {
     end
 }
 
+// Each program has an input of its own type: a trait for the three would be longer than this.
 fn read_all(rt: &HostRuntime, input: &mut Input) -> Result<(), Stop> {
     read_lines(rt, |line| match line {
         Some(text) => input.read(text),
@@ -41,16 +43,13 @@ fn read_all(rt: &HostRuntime, input: &mut Input) -> Result<(), Stop> {
 // A cap makes a house book, blocks a block book.
 fn replay(rt: &HostRuntime, input: &Input) -> Result<(), Stop> {
     match input.cap() {
-        Some(cents) => {
-            let book = HouseBook::load(cents, input.rows())?;
-            let network = TableNetwork::load(input.shares())?;
-            carry_out(rt, &book, &network, input.calls(), input.asked())?;
-        }
-        None => {
-            let book = BlockBook::load(input.blocks())?;
-            let network = TableNetwork::load(input.shares())?;
-            carry_out(rt, &book, &network, input.calls(), input.asked())?;
-        }
+        Some(cents) => replay_over(rt, &HouseBook::load(cents, input.rows())?, input),
+        None => replay_over(rt, &BlockBook::load(input.blocks())?, input),
     }
+}
+
+fn replay_over<B: OfferBook + Copy>(rt: &HostRuntime, book: &B, input: &Input) -> Result<(), Stop> {
+    let network = TableNetwork::load(input.shares())?;
+    carry_out(rt, book, &network, input.calls(), input.asked())?;
     Ok(())
 }

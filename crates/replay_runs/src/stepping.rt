@@ -17,12 +17,7 @@ pub(crate) fn print_listed<B: OfferBook, N: Network>(
     step: u8,
     listed: &Listed,
 ) -> io::Result<()> {
-    print_step(rt, step, listed.held.gap, listed.worth)?;
-    print_lines(rt, book, network, &listed.held)?;
-    for participant in 0..book.count() {
-        print_part(rt, book, network, &listed.held, participant, "")?;
-    }
-    Ok(())
+    print_held(rt, book, network, step, &listed.held, listed.worth, |_| "")
 }
 
 // The same, with objections, at the prices of the book.
@@ -33,11 +28,28 @@ pub(crate) fn print_weighed<B: OfferBook, N: Network>(
     step: u8,
     held: &Held,
 ) -> io::Result<()> {
-    print_step(rt, step, held.gap, worth(book, &held.dispatch))?;
+    let worth = worth(book, &held.dispatch);
+    print_held(rt, book, network, step, held, worth, |participant| {
+        objecting(objection(book, network, &held.quote, &held.dispatch, participant))
+    })
+}
+
+// What is held, and what `told` says of each participant.
+fn print_held<'a, B: OfferBook, N: Network, F: Fn(usize) -> &'a str>(
+    rt: &HostRuntime,
+    book: &B,
+    network: &N,
+    step: u8,
+    held: &Held,
+    worth: i64,
+    told: F,
+) -> io::Result<()>
+    requires { F.IsAlwaysCallable told }
+{
+    print_step(rt, step, held.gap, worth)?;
     print_lines(rt, book, network, held)?;
     for participant in 0..book.count() {
-        let objections = objection(book, network, &held.quote, &held.dispatch, participant);
-        print_part(rt, book, network, held, participant, objecting(objections))?;
+        print_part(rt, book, network, held, participant, told(participant))?;
     }
     Ok(())
 }

@@ -20,6 +20,8 @@ pub enum Rule {
     Reading,
 }
 
+// A rule looks at a row as it was submitted, so a load is one whose letter says so: `Class::try_from(row.letter)` would have
+// to be told apart from its error at each of them.
 impl Rule {
     pub fn cause(self) -> Cause
         ensures { result ≡ cause_of self }
@@ -82,6 +84,8 @@ fn limits_nest(row: &Row) -> bool
     row.lsl <= row.ldl && row.ldl <= row.hdl && row.hdl <= row.hsl && row.hsl <= 20_000
 }
 
+// Levels, prices of both directions, and the prices of blocks are held by a loop each: they differ in what is compared, and
+// which way.
 fn levels_rise(points: &[Point]) -> bool
     ensures { result ≡ levels_from 0 points.now }
 {

@@ -28,7 +28,8 @@ impl<B: OfferBook, N: Network> Run<B, N> {
         }
     }
 
-    // The fault of a call that is declined.
+    // The fault of a call that is declined, as `play` writes it: its list is filled with nothing beforehand, which no
+    // `Result` says.
     fn fault_of(&mut self, call: &Call) -> Option<Fault>
         ensures told { result ≡ fault_of (B.OfferBook.meaning self.old.book.book) (N.Network.meaning self.old.network) (state_of self.old) call.now }
         ensures left { state_of self.new ≡ state_after (B.OfferBook.meaning self.old.book.book) (N.Network.meaning self.old.network) (state_of self.old) call.now }

@@ -26,7 +26,7 @@ pub enum Statement {
     Call(Call),
     // a proposal that is only to be weighed
     Weigh(Proposal),
-    // the step whose listing is asked for
+    // the step whose listing is asked for, as a number: one that is no step has to be declined by its rule
     Listing(u8),
 }
 

@@ -1,5 +1,8 @@
 // What is wrong with a line of a script.
 
+ghost use Rattle.std.specs.Prelude.{◌≡◌, Some};
+ghost use Rattle.shell.specs.Flaws.{flaw_reason};
+
 use std::error::Error;
 use std::fmt;
 use words::Mistake;
@@ -20,15 +23,13 @@ pub enum Flaw {
     PriceCount,
 }
 
-impl fmt::Display for Flaw {
-    ghost use Rattle.std.specs.Prelude.{Some};
-    ghost use Rattle.shell.specs.Flaws.{flaw_reason};
-
-    ghost output = { λ flaw. Some (flaw_reason flaw) };
-
-    fn fmt<W: fmt::Write>(&self, f: &mut fmt::Formatter<W>) -> fmt::Result {
-        f.write_str(match self {
-            Flaw::Form(mistake) => return mistake.fmt(f),
+impl Flaw {
+    // Without a formatter, which may fail.
+    pub fn reason(self) -> &'static str
+        ensures { result.now ≡ flaw_reason self }
+    {
+        match self {
+            Flaw::Form(mistake) => mistake.reason(),
             Flaw::NotText => "not text",
             Flaw::NoBook => "neither cap nor block",
             Flaw::NoCap => "no cap",
@@ -40,7 +41,15 @@ impl fmt::Display for Flaw {
             Flaw::RowAfterTerms => "a row after terms or reference prices",
             Flaw::SecondReference => "a second line of reference prices",
             Flaw::PriceCount => "not one reference price for each row",
-        })
+        }
+    }
+}
+
+impl fmt::Display for Flaw {
+    ghost output = { λ flaw. Some (flaw_reason flaw) };
+
+    fn fmt<W: fmt::Write>(&self, f: &mut fmt::Formatter<W>) -> fmt::Result {
+        f.write_str(self.reason())
     }
 }
 

@@ -1,4 +1,4 @@
-// Standard input, line by line.
+// Standard input, line by line. No contract can say what it gives.
 
 use crate::stop::Stop;
 use std::io::{BufRead, BufReader, ErrorKind};

@@ -1,5 +1,5 @@
 -- What a line keeps, piece after piece.
-use Rattle.std.proofs.Common.{◌≡◌, ℕ, ◌≤◌, List, ◌++◌, length, rules}
+use Rattle.std.proofs.Common.{◌≡◌, ℕ, ◌≤◌, List, ◌++◌, length}
 use Rattle.std.proofs.lemmas.List.{take_all}
 use Rattle.given.proofs.Lists.{take_more_of, taken_both}
 use Rattle.text.specs.Lines.{kept}

@@ -1,5 +1,8 @@
 // What can be wrong with the form of a line.
 
+ghost use Rattle.std.specs.Prelude.{◌≡◌, Some};
+ghost use Rattle.words.specs.Reasons.{reason_of};
+
 use std::error::Error;
 use std::fmt;
 
@@ -21,15 +24,12 @@ pub enum Mistake {
     ManyBasePoints,
 }
 
-// In a few words, for whoever wrote the line.
-impl fmt::Display for Mistake {
-    ghost use Rattle.std.specs.Prelude.{Some};
-    ghost use Rattle.words.specs.Reasons.{reason_of};
-
-    ghost output = { λ mistake. Some (reason_of mistake) };
-
-    fn fmt<W: fmt::Write>(&self, f: &mut fmt::Formatter<W>) -> fmt::Result {
-        f.write_str(match self {
+impl Mistake {
+    // In a few words, for whoever wrote the line; without a formatter, which may fail.
+    pub fn reason(&self) -> &'static str
+        ensures { result.now ≡ reason_of self.now }
+    {
+        match self {
             Mistake::UnknownWord => "unknown word",
             Mistake::MissingWord => "missing word",
             Mistake::ExtraWord => "extra word",
@@ -44,7 +44,15 @@ impl fmt::Display for Mistake {
             Mistake::RepeatedBus => "a bus is named twice",
             Mistake::NoSlash => "no / before the base points",
             Mistake::ManyBasePoints => "over 64 base points",
-        })
+        }
+    }
+}
+
+impl fmt::Display for Mistake {
+    ghost output = { λ mistake. Some (reason_of mistake) };
+
+    fn fmt<W: fmt::Write>(&self, f: &mut fmt::Formatter<W>) -> fmt::Result {
+        f.write_str(self.reason())
     }
 }
 

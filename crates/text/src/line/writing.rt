@@ -31,7 +31,8 @@ impl Line {
         self.bytes.append(text);
     }
 
-    // In decimal, with no leading zero.
+    // In decimal, with no leading zero. The digits are made here: a line that is full drops what comes, and so is no writer
+    // that a format could write to.
     pub fn put_unsigned(&mut self, value: u64)
         ensures { text_of self.new ≡ kept (text_of self.old ++ decimal value) }
     {
