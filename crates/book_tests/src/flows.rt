@@ -1,21 +1,14 @@
 // A table network with the fewest and the most lines, shares and injections.
 
+use crate::sample::told;
 use network::{Injections, Network, TableNetwork};
 use std::test::Fail;
 
-// The number and the place of a fault.
-fn fault_of(rows: &[[i16; 64]]) -> (u8, usize) {
-    match TableNetwork::load(rows) {
-        Ok(_) => (0, 0),
-        Err(fault) => (fault.cause.number(), fault.place),
-    }
-}
-
 #[test]
 fn lines(rt: HostRuntime) {
-    assert_eq!(rt; fault_of(&[]), (0, 0));
-    assert_eq!(rt; fault_of(&[[0; 64]; 32]), (0, 0));
-    assert_eq!(rt; fault_of(&[[0; 64]; 33]), (10, 0));
+    assert_eq!(rt; told(TableNetwork::load(&[])), (0, 0));
+    assert_eq!(rt; told(TableNetwork::load(&[[0; 64]; 32])), (0, 0));
+    assert_eq!(rt; told(TableNetwork::load(&[[0; 64]; 33])), (10, 0));
 }
 
 #[test]
@@ -28,7 +21,7 @@ fn shares(rt: HostRuntime) {
     ] {
         let mut rows = [[0; 64]; 3];
         rows[1][63] = share;
-        assert_eq!(rt; fault_of(&rows), fault);
+        assert_eq!(rt; told(TableNetwork::load(&rows)), fault);
     }
 }
 

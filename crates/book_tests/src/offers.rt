@@ -1,6 +1,6 @@
 // A house book of a generator, a load and a generator that follows an Output Schedule.
 
-use crate::sample::{book_of, row};
+use crate::sample::{book_of, row, told};
 use book::OfferBook;
 use given::Given;
 use house::HouseBook;
@@ -61,21 +61,16 @@ fn prices(rt: HostRuntime) -> Result<(), Fail> {
     Ok(())
 }
 
-// The number and the place of a fault.
-fn fault_of(cents: u32, rows: &[Row]) -> (u8, usize) {
-    match HouseBook::load(cents, rows) {
-        Ok(_) => (0, 0),
-        Err(fault) => (fault.cause.number(), fault.place),
-    }
-}
-
 #[test]
 fn faults(rt: HostRuntime) {
     let astray = Row {
         bus: 64,
         ..generator()
     };
-    assert_eq!(rt; fault_of(500_000, &[]), (0, 0));
-    assert_eq!(rt; fault_of(0, &[astray]), (1, 0));
-    assert_eq!(rt; fault_of(500_000, &[generator(), astray]), (4, 1));
+    assert_eq!(rt; told(HouseBook::load(500_000, &[])), (0, 0));
+    assert_eq!(rt; told(HouseBook::load(0, &[astray])), (1, 0));
+    assert_eq!(rt;
+        told(HouseBook::load(500_000, &[generator(), astray])),
+        (4, 1)
+    );
 }

@@ -1,5 +1,6 @@
 // Rows with two points, and books of them.
 
+use fault::Fault;
 use given::Given;
 use house::HouseBook;
 use rows::{Point, Row};
@@ -32,5 +33,13 @@ pub(crate) fn book_of(rows: &[Row]) -> Result<HouseBook, Fail> {
     match HouseBook::load(500_000, rows) {
         Ok(book) => Ok(book),
         Err(_) => Err(Fail::new("the rows break a rule")),
+    }
+}
+
+// Number and place of the fault by which something is not loaded, or two zeros.
+pub(crate) fn told<T: Drop>(loaded: Result<T, Fault>) -> (u8, usize) {
+    match loaded {
+        Ok(_) => (0, 0),
+        Err(fault) => (fault.cause.number(), fault.place),
     }
 }

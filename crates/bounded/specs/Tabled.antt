@@ -1,6 +1,6 @@
 -- The layer that a table holds.
-use Rattle.std.specs.Prelude.{◌≡◌, ℕ, true, false, cond, ◌&&◌, List, ℤ, pos, negsuc, Some, None, Option, is_some, ◌==◌, nat_lt, slice_index_or, refl}
-use Rattle.bounded.specs.Mitigation.{Terms, Layer, applied}
+use Rattle.std.specs.Prelude.{ℕ, true, false, cond, ◌&&◌, List, ℤ, pos, negsuc, Some, None, Option, is_some, ◌==◌, nat_lt, slice_index_or}
+use Rattle.bounded.specs.Mitigation.{Terms, Layer}
 use Rattle.bounded.specs.declared.table.Table.{Table}
 use Rattle.bounded.specs.declared.term.Term.{Term}
 
@@ -50,8 +50,8 @@ with_references l rs = record { terms = l.terms; reference = λ i. slice_index_o
 
 -- a layer without reference prices
 abbrev pub without_references : Layer → Layer
-without_references l = record { terms = l.terms; reference = λ _. pos 0; referenced = false }
+without_references l = record { terms = l.terms; reference = l.reference; referenced = false }
 
--- no price depends on reference prices that are not there
-pub cleared_alike : (l : Layer) (i : ℕ) (p : ℤ) → applied (record { terms = l.terms; reference = l.reference; referenced = false }) i p ≡ applied (without_references l) i p
-cleared_alike l i p = refl
+-- the same, with 0 in their place
+abbrev pub cleared : Layer → Layer
+cleared l = record { terms = l.terms; reference = λ _. pos 0; referenced = false }

@@ -2,7 +2,7 @@
 
 ghost use Rattle.std.specs.Prelude.{◌≡◌, ◌<◌};
 ghost use Rattle.bounded.specs.Mitigation.{applied};
-ghost use Rattle.bounded.specs.Tabled.{terms_of, layer_of, fresh_layer, with_term, with_references, without_references};
+ghost use Rattle.bounded.specs.Tabled.{terms_of, layer_of, fresh_layer, with_term, with_references, cleared};
 
 use crate::table::Table;
 use crate::term::Term;
@@ -37,7 +37,7 @@ impl Table {
 
     // No first step, and so no reference prices.
     pub fn clear(&mut self)
-        ensures { layer_of self.new ≡ without_references (layer_of self.old) }
+        ensures { layer_of self.new ≡ cleared (layer_of self.old) }
     {
         self.references = None;
     }

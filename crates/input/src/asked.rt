@@ -8,7 +8,7 @@ pub enum Asked {
     Call(usize),
     // a proposal, weighed after so many calls
     Weigh(usize, Proposal),
-    // the step of this number, as it was asked for, listed after so many calls
+    // the step of this number, listed after so many calls: another number than 1 and 2 has to be declined by its rule
     Listing(usize, u8),
     Base(BasePoints),
 }

@@ -15,7 +15,7 @@ fn main(rt: HostRuntime) -> io::Result<()> {
     print_end(&rt, run(&rt))
 }
 
-// Book and network are loaded also where no base points ask for them.
+// Book and network are loaded also where no base points ask for them. Each program reads into an input of its own type.
 fn run(rt: &HostRuntime) -> Result<(), Stop> {
     let mut input = Input::new(rt.alloc());
     read_lines(rt, |line| match line {

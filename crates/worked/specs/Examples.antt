@@ -56,10 +56,10 @@ one_line = grid_of ((pos 1000 ∷ []) ∷ [])
 abbrev pub first_step : Step
 first_step = record { requirement = pos 250; limit = λ _. pos 200; observed = λ _. false }
 
-abbrev at_system : ℤ → Prices
+abbrev pub at_system : ℤ → Prices
 at_system y = record { system = y; shadow = λ _. pos 0 }
 
-abbrev base : ℕ → ℕ → ℕ → ℕ
+abbrev pub base : ℕ → ℕ → ℕ → ℕ
 base a b i = get_or (a ∷ b ∷ []) i 0
 
 abbrev pub examples : List Example

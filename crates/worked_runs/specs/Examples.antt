@@ -1,5 +1,5 @@
 -- The worked runs of the documents, each as an instance of the definitions.
-use Rattle.std.specs.Prelude.{◌≡◌, ℕ, true, false, cond, List, [], ◌∷◌, ℤ, pos, negsuc, Some, ◌==◌, slice_index}
+use Rattle.std.specs.Prelude.{◌≡◌, ℕ, true, false, cond, List, [], ◌∷◌, ℤ, pos, negsuc, Some, ◌==◌}
 use Rattle.std.specs.Option.{option_map}
 use Rattle.fault.specs.declared.cause.Cause.TheVariants.{StepNumber, GapTolerance}
 use Rattle.fault.specs.declared.cause.Fault.{Fault}
@@ -15,7 +15,7 @@ use Rattle.law.specs.Law.{leaves}
 use Rattle.law.specs.State.{Force, held_in, step_in, priced_book}
 use Rattle.market.specs.Market.{Step, Prices, worth, gap}
 use Rattle.network.specs.Grid.{Grid}
-use Rattle.worked.specs.Examples.{two_units, one_line}
+use Rattle.worked.specs.Examples.{two_units, one_line, at_system, base}
 
 pub data Example : Type 0 where
   -- the dispatch x is worth v in the offer book m
@@ -36,12 +36,6 @@ Holds (declined m g cs c f) = fault_of m g (leaves m g cs) c ≡ Some f
 abbrev pub AllHold : List Example → Type 0
 AllHold [] = Unit {0}
 AllHold (x ∷ xs) = Holds x × AllHold xs
-
-abbrev at_system : ℤ → Prices
-at_system y = record { system = y; shadow = λ _. pos 0 }
-
-abbrev base : ℕ → ℕ → ℕ → ℕ
-base a b i = slice_index (a ∷ b ∷ []) i
 
 -- what is in force there: no tolerance, and the committed unit subject to mitigation with the cap 10,000 and the adder 100
 abbrev pub in_force : Force
