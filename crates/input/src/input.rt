@@ -1,10 +1,11 @@
 // What a script has said so far: one book, of either kind, and the lines of a network, and then calls and what else is
 // asked of them. The cap of house rows comes before them.
 
-ghost use Rattle.std.specs.Prelude.{◌≡◌, ◌+◌, min, true, [], ◌∷◌, ◌++◌, is_some, IfErr, if◌then◌else◌, Some, None, Ok, Err, vec_len, OnOk};
+ghost use Rattle.std.specs.Prelude.{◌≡◌, ◌+◌, min, [], ◌∷◌, ◌++◌, if◌then◌else◌, Some, None, Ok, Err, vec_len};
 ghost use Rattle.input.specs.Booked.{has_book};
+ghost use Rattle.input.specs.Order.{Taken, Flawed, cap_flaw, row_flaw, block_flaw, late_flaw, book_flaw, but_cap, but_rows, but_blocks, but_shares, but_calls, but_asked};
 ghost use Rattle.input.specs.declared.asked.Asked.TheVariants.{Call as Called};
-ghost use Rattle.shell.specs.declared.flaw.Flaw.TheVariants.{NotText, NoBook, SecondCap, Mixed};
+ghost use Rattle.shell.specs.declared.flaw.Flaw.TheVariants.{NotText, NoBook};
 ghost use Rattle.shell.specs.declared.stop.Stop.TheVariants.{Malformed};
 
 use crate::asked::Asked;
@@ -85,7 +86,9 @@ impl Input {
     }
 
     // One line more.
-    pub fn read(&mut self, line: &str) -> Result<(), Stop> {
+    pub fn read(&mut self, line: &str) -> Result<(), Stop>
+        ensures { self.new.read ≡ min (self.old.read + 1) 18446744073709551615 }
+    {
         self.read = self.read.saturating_add(1);
         let made = self.calls.len();
         match read_line(line) {
@@ -130,8 +133,9 @@ impl Input {
     // Each of the three programs keeps lists of its own and holds its lines to an order of its own. What is alike in two of
     // them, as this and the number of the last line, looks at those lists or names their flaws.
     fn set_cap(&mut self, cents: u32) -> Result<(), Stop>
-        ensures first { OnOk result ((self.old.cap ≡ None) × (self.new.cap ≡ Some cents)) }
-        ensures again { IfErr result (λ s. s ≡ Malformed self.old.read (if is_some self.old.cap then SecondCap else Mixed)) }
+        ensures taken { Taken (cap_flaw self.old) result (self.new.cap ≡ Some cents) }
+        ensures flawed { Flawed (cap_flaw self.old) self.old self.new result }
+        ensures only { self.new ≡ but_cap self.old self.new }
     {
         if self.cap.is_some() {
             return self.flawed(Flaw::SecondCap);
@@ -144,7 +148,9 @@ impl Input {
     }
 
     fn add_row(&mut self, row: Row) -> Result<(), Stop>
-        ensures { OnOk result ((vec_len self.old.asked ≡ 0) × (self.new.rows.items ≡ self.old.rows.items ++ row ∷ [])) }
+        ensures taken { Taken (row_flaw self.old) result (self.new.rows.items ≡ self.old.rows.items ++ row ∷ []) }
+        ensures flawed { Flawed (row_flaw self.old) self.old self.new result }
+        ensures only { self.new ≡ but_rows self.old self.new }
     {
         if !self.blocks.is_empty() {
             return self.flawed(Flaw::Mixed);
@@ -160,7 +166,9 @@ impl Input {
     }
 
     fn add_block(&mut self, row: BlockRow) -> Result<(), Stop>
-        ensures { OnOk result ((self.old.cap ≡ None) × (vec_len self.old.asked ≡ 0) × (self.new.blocks.items ≡ self.old.blocks.items ++ row ∷ [])) }
+        ensures taken { Taken (block_flaw self.old) result (self.new.blocks.items ≡ self.old.blocks.items ++ row ∷ []) }
+        ensures flawed { Flawed (block_flaw self.old) self.old self.new result }
+        ensures only { self.new ≡ but_blocks self.old self.new }
     {
         if self.cap.is_some() {
             return self.flawed(Flaw::Mixed);
@@ -173,7 +181,9 @@ impl Input {
     }
 
     fn add_line(&mut self, shares: [i16; 64]) -> Result<(), Stop>
-        ensures { OnOk result ((vec_len self.old.asked ≡ 0) × (self.new.shares.items ≡ self.old.shares.items ++ shares ∷ [])) }
+        ensures taken { Taken (late_flaw self.old) result (self.new.shares.items ≡ self.old.shares.items ++ shares ∷ []) }
+        ensures flawed { Flawed (late_flaw self.old) self.old self.new result }
+        ensures only { self.new ≡ but_shares self.old self.new }
     {
         if !self.asked.is_empty() {
             return self.flawed(Flaw::Late);
@@ -183,7 +193,9 @@ impl Input {
     }
 
     fn add_call(&mut self, call: Call) -> Result<(), Stop>
-        ensures { OnOk result ((self.new.calls.items ≡ self.old.calls.items ++ call ∷ []) × (self.new.asked.items ≡ self.old.asked.items ++ Called (vec_len self.old.calls) ∷ [])) }
+        ensures taken { Taken (book_flaw self.old) result ((self.new.calls.items ≡ self.old.calls.items ++ call ∷ []) × (self.new.asked.items ≡ self.old.asked.items ++ Called (vec_len self.old.calls) ∷ [])) }
+        ensures flawed { Flawed (book_flaw self.old) self.old self.new result }
+        ensures only { self.new ≡ but_calls self.old self.new }
     {
         let place = self.calls.len();
         self.ask(Asked::Call(place))?;
@@ -192,8 +204,9 @@ impl Input {
     }
 
     fn ask(&mut self, asked: Asked) -> Result<(), Stop>
-        ensures asked { OnOk result ((has_book self.old ≡ true) × (self.new.asked.items ≡ self.old.asked.items ++ asked ∷ [])) }
-        ensures calls { self.new.calls ≡ self.old.calls }
+        ensures taken { Taken (book_flaw self.old) result (self.new.asked.items ≡ self.old.asked.items ++ asked ∷ []) }
+        ensures flawed { Flawed (book_flaw self.old) self.old self.new result }
+        ensures only { self.new ≡ but_asked self.old self.new }
     {
         self.check_book()?;
         self.asked.push(asked)?;
