@@ -2,9 +2,8 @@
 
 use crate::sample::{book_of, row, told};
 use book::OfferBook;
-use given::Given;
 use house::HouseBook;
-use rows::{Point, Row};
+use rows::Row;
 use std::test::Fail;
 
 fn generator() -> Row {
@@ -13,10 +12,13 @@ fn generator() -> Row {
 
 fn book() -> Result<HouseBook, Fail> {
     let load = row('L', 5, [0, 0, 200, 200], 150, [5_000, 3_000]);
+    // none was submitted: the two that stand there mean nothing
+    let mut points = generator().points;
+    points.count = 0;
     let scheduled = Row {
         bus: 63,
         reading: 200,
-        points: Given::new(Point { level: 0, price: 0 }),
+        points,
         ..generator()
     };
     book_of(&[generator(), load, scheduled])

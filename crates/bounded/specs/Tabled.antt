@@ -1,5 +1,5 @@
 -- The layer that a table holds.
-use Rattle.std.specs.Prelude.{ℕ, true, false, cond, ◌&&◌, List, ℤ, pos, negsuc, Some, None, Option, is_some, ◌==◌, nat_lt, slice_index_or}
+use Rattle.std.specs.Prelude.{ℕ, true, false, cond, ◌&&◌, List, ℤ, pos, negsuc, ◌==◌, nat_lt, slice_index_or}
 use Rattle.bounded.specs.Mitigation.{Terms, Layer}
 use Rattle.bounded.specs.declared.table.Table.{Table}
 use Rattle.bounded.specs.declared.term.Term.{Term}
@@ -22,17 +22,12 @@ fresh_term =
       hundredth = record { le = tt };
     }
 
--- the reference price of participant i; 0 where there are no reference prices
-abbrev pub reference_in : Option (List ℤ) → ℕ → ℤ
-reference_in None i = pos 0
-reference_in (Some rs) i = slice_index_or rs i (pos 0)
-
 abbrev pub layer_of : Table → Layer
 layer_of t =
     record {
       terms = λ i. terms_of (slice_index_or t.terms i fresh_term);
-      reference = reference_in t.references;
-      referenced = is_some t.references;
+      reference = λ i. slice_index_or t.references i (pos 0);
+      referenced = t.referenced;
     }
 
 -- the layer of a new run: every term fresh, and no reference prices
@@ -51,7 +46,3 @@ with_references l rs = record { terms = l.terms; reference = λ i. slice_index_o
 -- a layer without reference prices
 abbrev pub without_references : Layer → Layer
 without_references l = record { terms = l.terms; reference = l.reference; referenced = false }
-
--- the same, with 0 in their place
-abbrev pub cleared : Layer → Layer
-cleared l = record { terms = l.terms; reference = λ _. pos 0; referenced = false }

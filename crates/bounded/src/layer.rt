@@ -1,7 +1,7 @@
 // The layer is made over a book, and its table is set from outside.
 
 ghost use Rattle.std.specs.Prelude.{◌≡◌, ℕ, ℤ};
-ghost use Rattle.bounded.specs.Tabled.{terms_of, layer_of, fresh_layer, with_term, with_references, without_references, cleared};
+ghost use Rattle.bounded.specs.Tabled.{terms_of, layer_of, fresh_layer, with_term, with_references, without_references};
 ghost use Rattle.bounded.specs.Mitigation.{applied};
 
 use crate::bounded::Bounded;
@@ -46,7 +46,7 @@ impl<B> Bounded<B> {
     // No reference prices.
     pub fn clear(&mut self)
         ensures same { self.new.book ≡ self.old.book }
-        ensures layer { layer_of self.new.table ≡ cleared (layer_of self.old.table) }
+        ensures layer { layer_of self.new.table ≡ without_references (layer_of self.old.table) }
         ensures prices { (i : ℕ) (p : ℤ) → applied (layer_of self.new.table) i p ≡ applied (without_references (layer_of self.old.table)) i p }
     {
         self.table.clear();

@@ -2,7 +2,7 @@
 
 ghost use Rattle.std.specs.Prelude.{◌≡◌, ◌<◌};
 ghost use Rattle.bounded.specs.Mitigation.{applied};
-ghost use Rattle.bounded.specs.Tabled.{terms_of, layer_of, fresh_layer, with_term, with_references, cleared};
+ghost use Rattle.bounded.specs.Tabled.{terms_of, layer_of, fresh_layer, with_term, with_references, without_references};
 
 use crate::table::Table;
 use crate::term::Term;
@@ -14,7 +14,8 @@ impl Table {
     {
         Table {
             terms: [Term::fresh(); 64],
-            references: None,
+            references: [0; 64],
+            referenced: false,
         }
     }
 
@@ -32,23 +33,25 @@ impl Table {
     pub fn refer(&mut self, references: [i32; 64])
         ensures { layer_of self.new ≡ with_references (layer_of self.old) references }
     {
-        self.references = Some(references);
+        self.references = references;
+        self.referenced = true;
     }
 
-    // No first step, and so no reference prices.
+    // No first step, and so no reference prices: the last ones stay, unread.
     pub fn clear(&mut self)
-        ensures { layer_of self.new ≡ cleared (layer_of self.old) }
+        ensures { layer_of self.new ≡ without_references (layer_of self.old) }
     {
-        self.references = None;
+        self.referenced = false;
     }
 
     pub(crate) fn apply(&self, participant: usize, price: i32) -> i32
         requires { participant < 64 }
         ensures { result ≡ applied (layer_of self.now) participant price }
     {
-        match &self.references {
-            Some(references) => self.terms[participant].mitigate(references[participant], price),
-            None => price,
+        if self.referenced {
+            self.terms[participant].mitigate(self.references[participant], price)
+        } else {
+            price
         }
     }
 }

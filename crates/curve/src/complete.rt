@@ -175,7 +175,8 @@ impl Curve {
 
     // The points of the completed curve.
     pub fn points(&self) -> &[Point]
-        ensures { result.now ≡ listed self.now.points }
+        ensures value { result.now ≡ listed self.now.points }
+        ensures few { length result.now ≤ 13 }
     {
         self.points.as_slice()
     }

@@ -1,8 +1,9 @@
 // A line of a network: `line 0:1000 3:-250` is bus:share pairs, shares in thousandths. Every other
 // bus has the share 0.
 
-ghost use Rattle.std.specs.Prelude.{◌≡◌, ◌≤◌, pos, negsuc, if◌then◌else◌, Some, None, IsSome, MatchResult, nat_lt, slice_index_or, slice_set};
+ghost use Rattle.std.specs.Prelude.{◌≡◌, ◌≤◌, pos, negsuc, if◌then◌else◌, Some, None, IsSome, IfErr, MatchResult, nat_lt, slice_index_or, slice_set};
 ghost use Rattle.std.specs.Int.{int_min, int_max};
+ghost use Rattle.words.specs.Plain.{IsPlain};
 ghost use Rattle.words.specs.declared.mistake.Mistake.TheVariants.{BusRange, RepeatedBus};
 
 use words::{Mistake, Words, read_number, read_price};
@@ -13,13 +14,19 @@ struct Shares {
     at: [Option<i16>; 64],
 }
 
-pub fn read_shares(words: Words) -> Result<[i16; 64], Mistake> {
+pub fn read_shares(words: Words) -> Result<[i16; 64], Mistake>
+    ensures { IfErr result IsPlain }
+{
     let mut shares = Shares { at: [None; 64] };
     for word in words {
         let (bus, share) = read_share(word)?;
         shares.name(bus, share)?;
     }
-    Ok(shares.at.map(|share| share.unwrap_or(0)))
+    let mut at = [0; 64];
+    for (share, named) in at.iter_mut().zip(&shares.at) {
+        *share = named.unwrap_or(0);
+    }
+    Ok(at)
 }
 
 impl Shares {
@@ -40,7 +47,9 @@ impl Shares {
     }
 }
 
-fn read_share(word: &str) -> Result<(u64, i16), Mistake> {
+fn read_share(word: &str) -> Result<(u64, i16), Mistake>
+    ensures { IfErr result IsPlain }
+{
     let (bus, share) = word.split_once(':').ok_or(Mistake::NotAShare)?;
     Ok((read_number(bus)?, share_of(read_price(share)?)))
 }

@@ -1,6 +1,6 @@
 // Lists of entries in tables of fixed size, one entry for each word that is left.
 
-ghost use Rattle.std.specs.Prelude.{◌≡◌, ◌+◌, ◌<◌, ◌≤◌, min, List, [], ◌∷◌, ◌++◌, length, take, Ok, IfOk, MatchResult, slice_set};
+ghost use Rattle.std.specs.Prelude.{◌≡◌, ℕ, ◌+◌, ◌<◌, ◌≤◌, min, List, [], ◌∷◌, ◌++◌, length, take, Ok, Err, ◌⊎◌, IfOk, MatchResult, slice_set};
 ghost use Rattle.std.specs.Fn.{FnReturnsAt};
 ghost use Rattle.given.specs.Kept.{kept};
 ghost use Rattle.words.specs.Next.{left};
@@ -18,7 +18,7 @@ pub(crate) fn read_counted<T: Copy, const N: usize, F: Fn(&str) -> Result<T, Mis
     read: F,
 ) -> Result<Given<T, N>, Mistake>
     requires { F.IsAlwaysCallable read }
-    ensures { IfOk result (Counted (λ word entry. FnReturnsAt F.Fn read word (Ok entry)) (left words.entry)) }
+    ensures { MatchResult result (Counted (λ word entry. FnReturnsAt F.Fn read word (Ok entry)) (left words.entry)) (λ m. (word : List ℕ) × FnReturnsAt F.Fn read word (Err m)) }
 {
     let mut list = Given::new(blank);
     for word in words {
@@ -35,7 +35,7 @@ pub(crate) fn read_within<T: Copy, const N: usize, F: Fn(&str) -> Result<T, Mist
     over: Mistake,
 ) -> Result<Given<T, N>, Mistake>
     requires { F.IsAlwaysCallable read }
-    ensures { IfOk result (Within (λ word entry. FnReturnsAt F.Fn read word (Ok entry)) (left words.entry)) }
+    ensures { MatchResult result (Within (λ word entry. FnReturnsAt F.Fn read word (Ok entry)) (left words.entry)) (λ m. ((word : List ℕ) × FnReturnsAt F.Fn read word (Err m)) ⊎ (m ≡ over)) }
 {
     let mut list = Given::new(blank);
     for word in words {

@@ -1,8 +1,9 @@
 // A row of a house book: `row N 0 100 100 300 300 0 100:2000 300:4000` is class, bus, LSL, LDL,
 // HDL, HSL, reading and points.
 
-ghost use Rattle.std.specs.Prelude.{IfOk};
+ghost use Rattle.std.specs.Prelude.{IfErr, MatchResult};
 ghost use Rattle.words.specs.Next.{left};
+ghost use Rattle.words.specs.Plain.{IsPlain};
 ghost use Rattle.entries.specs.Priced.{IsPoint};
 ghost use Rattle.entries.specs.Rows.{IsRow};
 
@@ -12,7 +13,7 @@ use rows::{Point, Row};
 use words::{Mistake, Words, read_field};
 
 pub fn read_row(mut words: Words) -> Result<Row, Mistake>
-    ensures { IfOk result (IsRow (left words.entry)) }
+    ensures { MatchResult result (IsRow (left words.entry)) IsPlain }
 {
     let letter = read_letter(words.word()?)?;
     let bus = read_field(words.word()?)?;
@@ -35,7 +36,9 @@ pub fn read_row(mut words: Words) -> Result<Row, Mistake>
 }
 
 // A word of one character.
-fn read_letter(word: &str) -> Result<char, Mistake> {
+fn read_letter(word: &str) -> Result<char, Mistake>
+    ensures { IfErr result IsPlain }
+{
     let mut letters = word.chars();
     match (letters.next(), letters.next()) {
         (Some(letter), None) => Ok(letter),
@@ -44,7 +47,7 @@ fn read_letter(word: &str) -> Result<char, Mistake> {
 }
 
 fn read_point(word: &str) -> Result<Point, Mistake>
-    ensures { IfOk result (IsPoint word.now) }
+    ensures { MatchResult result (IsPoint word.now) IsPlain }
 {
     let (level, price) = read_priced(word, Mistake::NotAPoint)?;
     Ok(Point { level, price })

@@ -4,8 +4,9 @@ ghost use Rattle.std.specs.Prelude.{◌≡◌, pos, negsuc, ◌≤ℤ◌, Decide
 ghost use Rattle.dispatch.specs.Base.{base_of};
 ghost use Rattle.market.specs.Market.{balance, due};
 ghost use Rattle.feasible.specs.Checks.{readings};
-ghost use Rattle.feasible.specs.Stages.{held_to};
+ghost use Rattle.feasible.specs.Stages.{held_to, step_of};
 
+use crate::stage::Stage;
 use crate::step::Step;
 use book::OfferBook;
 use dispatch::{Dispatch, injection};
@@ -36,9 +37,10 @@ pub(crate) fn readings<B: OfferBook>(book: &B) -> i64
     total
 }
 
-// Whether the balance is what it has to be.
+// Whether the balance is what it has to be, in either stage.
 pub fn balanced<B: OfferBook>(book: &B, dispatch: &Dispatch, step: &Step) -> bool
-    ensures { Decides result (balance (B.OfferBook.meaning book.now) (base_of dispatch.now) ≡ due (B.OfferBook.meaning book.now) (held_to step.now)) }
+    ensures value { Decides result (balance (B.OfferBook.meaning book.now) (base_of dispatch.now) ≡ due (B.OfferBook.meaning book.now) (held_to step.now)) }
+    ensures either { (t : Stage) → Decides result (balance (B.OfferBook.meaning book.now) (base_of dispatch.now) ≡ due (B.OfferBook.meaning book.now) (step_of step.now.constraints t)) }
 {
     balance(book, dispatch) == step.due(book)
 }

@@ -66,6 +66,10 @@ impl<T: Copy, const N: usize> Given<T, N> {
         ensures list { MatchOption result (length (kept self.now.count self.now.items) ≤ place) (λ item. (place < length (kept self.now.count self.now.items)) × (item.now ≡ slice_index_or (kept self.now.count self.now.items) place item.now)) }
         ensures table { MatchOption result (min self.now.count N ≤ place) (λ item. (place < self.now.count) × (place < N) × ((blank : T) → item.now ≡ slice_index_or self.now.items place blank)) }
     {
-        self.as_slice().get(place)
+        if place < self.count {
+            self.items.get(place)
+        } else {
+            None
+        }
     }
 }

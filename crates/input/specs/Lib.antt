@@ -1,2 +1,3 @@
 pub mod Booked
 pub mod Order
+pub mod Stops

@@ -1,11 +1,12 @@
 // What a script has said so far: one book, of either kind, and the lines of a network, and then calls and what else is
 // asked of them. The cap of house rows comes before them.
 
-ghost use Rattle.std.specs.Prelude.{◌≡◌, ◌+◌, min, [], ◌∷◌, ◌++◌, if◌then◌else◌, Some, None, Ok, Err, vec_len};
+ghost use Rattle.std.specs.Prelude.{◌≡◌, ◌+◌, min, [], ◌∷◌, ◌++◌, is_some, IfErr, if◌then◌else◌, Some, None, Ok, Err, vec_len};
 ghost use Rattle.input.specs.Booked.{has_book};
 ghost use Rattle.input.specs.Order.{Taken, Flawed, cap_flaw, row_flaw, block_flaw, late_flaw, book_flaw, but_cap, but_rows, but_blocks, but_shares, but_calls, but_asked};
+ghost use Rattle.input.specs.Stops.{Stops};
 ghost use Rattle.input.specs.declared.asked.Asked.TheVariants.{Call as Called};
-ghost use Rattle.shell.specs.declared.flaw.Flaw.TheVariants.{NotText, NoBook};
+ghost use Rattle.shell.specs.declared.flaw.Flaw.TheVariants.{NotText, NoBook, SecondCap, Mixed};
 ghost use Rattle.shell.specs.declared.stop.Stop.TheVariants.{Malformed};
 
 use crate::asked::Asked;
@@ -87,7 +88,8 @@ impl Input {
 
     // One line more.
     pub fn read(&mut self, line: &str) -> Result<(), Stop>
-        ensures { self.new.read ≡ min (self.old.read + 1) 18446744073709551615 }
+        ensures line { self.new.read ≡ min (self.old.read + 1) 18446744073709551615 }
+        ensures stops { IfErr result (Stops self.new.read) }
     {
         self.read = self.read.saturating_add(1);
         let made = self.calls.len();
@@ -136,6 +138,8 @@ impl Input {
         ensures taken { Taken (cap_flaw self.old) result (self.new.cap ≡ Some cents) }
         ensures flawed { Flawed (cap_flaw self.old) self.old self.new result }
         ensures only { self.new ≡ but_cap self.old self.new }
+        ensures stops { IfErr result (Stops self.old.read) }
+        ensures again { IfErr result (λ s. s ≡ Malformed self.old.read (if is_some self.old.cap then SecondCap else Mixed)) }
     {
         if self.cap.is_some() {
             return self.flawed(Flaw::SecondCap);
@@ -151,6 +155,7 @@ impl Input {
         ensures taken { Taken (row_flaw self.old) result (self.new.rows.items ≡ self.old.rows.items ++ row ∷ []) }
         ensures flawed { Flawed (row_flaw self.old) self.old self.new result }
         ensures only { self.new ≡ but_rows self.old self.new }
+        ensures stops { IfErr result (Stops self.old.read) }
     {
         if !self.blocks.is_empty() {
             return self.flawed(Flaw::Mixed);
@@ -169,6 +174,7 @@ impl Input {
         ensures taken { Taken (block_flaw self.old) result (self.new.blocks.items ≡ self.old.blocks.items ++ row ∷ []) }
         ensures flawed { Flawed (block_flaw self.old) self.old self.new result }
         ensures only { self.new ≡ but_blocks self.old self.new }
+        ensures stops { IfErr result (Stops self.old.read) }
     {
         if self.cap.is_some() {
             return self.flawed(Flaw::Mixed);
@@ -184,6 +190,7 @@ impl Input {
         ensures taken { Taken (late_flaw self.old) result (self.new.shares.items ≡ self.old.shares.items ++ shares ∷ []) }
         ensures flawed { Flawed (late_flaw self.old) self.old self.new result }
         ensures only { self.new ≡ but_shares self.old self.new }
+        ensures stops { IfErr result (Stops self.old.read) }
     {
         if !self.asked.is_empty() {
             return self.flawed(Flaw::Late);
@@ -196,6 +203,7 @@ impl Input {
         ensures taken { Taken (book_flaw self.old) result ((self.new.calls.items ≡ self.old.calls.items ++ call ∷ []) × (self.new.asked.items ≡ self.old.asked.items ++ Called (vec_len self.old.calls) ∷ [])) }
         ensures flawed { Flawed (book_flaw self.old) self.old self.new result }
         ensures only { self.new ≡ but_calls self.old self.new }
+        ensures stops { IfErr result (Stops self.old.read) }
     {
         let place = self.calls.len();
         self.ask(Asked::Call(place))?;
@@ -207,6 +215,7 @@ impl Input {
         ensures taken { Taken (book_flaw self.old) result (self.new.asked.items ≡ self.old.asked.items ++ asked ∷ []) }
         ensures flawed { Flawed (book_flaw self.old) self.old self.new result }
         ensures only { self.new ≡ but_asked self.old self.new }
+        ensures stops { IfErr result (Stops self.old.read) }
     {
         self.check_book()?;
         self.asked.push(asked)?;

@@ -2,13 +2,14 @@
 // a walk stops at the first tenth that does not object.
 
 ghost use Rattle.std.specs.Prelude.{◌≡◌, suc, ◌<◌, ◌≤◌, pos, negsuc, ◌-ℤ◌, ◌*ℤ◌, ◌≤ℤ◌, IfSome};
+ghost use Rattle.book.specs.Sides.{side_of};
 ghost use Rattle.market.specs.Market.{gain, gain_at, forgone_at};
 ghost use Rattle.market.specs.Quoted.{prices_of};
 ghost use Rattle.market.specs.Walks.{Climbed, Descended, Moderate, forgone_or};
 
 use crate::nodal::lmp;
 use crate::quote::Quote;
-use book::OfferBook;
+use book::{OfferBook, Side};
 use dispatch::sided;
 use network::Network;
 
@@ -17,13 +18,17 @@ use network::Network;
 struct Paid<'a, B: OfferBook> {
     book: &'a B,
     participant: usize,
+    // asked once, and not at each level
+    side: Option<Side>,
     lmp: i64,
+    ghost sides: { side_of side ≡ (B.OfferBook.meaning book.now).side participant },
     ghost least: { negsuc 32999999999 ≤ℤ lmp },
     ghost most: { lmp ≤ℤ pos 33000000000 },
 }
 
 impl<'a, B: OfferBook> Paid<'a, B> {
     // What is left of the price after a tenth's own.
+    #[inline(always)]
     fn margin(&self, level: u16) -> i64
         ensures value { result ≡ self.now.lmp -ℤ (pos 1000 *ℤ (B.OfferBook.meaning self.now.book.now).price self.now.participant level) }
         ensures least { negsuc 33999999999 ≤ℤ result }
@@ -32,13 +37,14 @@ impl<'a, B: OfferBook> Paid<'a, B> {
         self.lmp - 1_000 * self.book.price(self.participant, level) as i64
     }
 
-    // The gain of the tenth that ends at a level.
+    // The gain of the tenth that ends at a level. A walk asks it at each level, so it stands in the walk's own code.
+    #[inline(always)]
     fn gain(&self, level: u16) -> i64
         ensures value { result ≡ gain_at (B.OfferBook.meaning self.now.book.now) self.now.lmp self.now.participant level }
         ensures least { negsuc 33999999999 ≤ℤ result }
         ensures most { result ≤ℤ pos 34000000000 }
     {
-        sided(self.book.side(self.participant), self.margin(level))
+        sided(self.side, self.margin(level))
     }
 
     // The two walks differ in their levels, in the sign and in where they end: one walk for both would take all three.
@@ -114,6 +120,7 @@ pub fn forgone<B: OfferBook, N: Network>(
         let paid = Paid {
             book,
             participant,
+            side: book.side(participant),
             lmp: price,
         };
         Some(paid.forgone(base))
@@ -135,6 +142,7 @@ pub fn tenth_gain<B: OfferBook, N: Network>(
     let paid = Paid {
         book,
         participant,
+        side: book.side(participant),
         lmp: lmp(book, network, quote, participant),
     };
     paid.gain(level)

@@ -1,6 +1,6 @@
 // The reference prices of a first step.
 
-ghost use Rattle.std.specs.Prelude.{◌≡◌, ℕ, ◌<◌, pos, slice_index_or};
+ghost use Rattle.std.specs.Prelude.{◌≡◌, ℕ, ◌<◌, pos, if◌then◌else◌, nat_lt, slice_index_or};
 ghost use Rattle.market.specs.Quoted.{prices_of};
 ghost use Rattle.bounded.specs.Mitigation.{layered};
 ghost use Rattle.bounded.specs.Tabled.{layer_of};
@@ -28,11 +28,27 @@ fn reference<B: OfferBook, N: Network>(
     lmp(book, network, quote, participant).div_euclid(1_000) as i32
 }
 
+// The same, and 0 where there is no such participant: no price is worked out for one.
+fn reference_at<B: OfferBook, N: Network>(
+    book: &B,
+    network: &N,
+    quote: &Quote,
+    participant: usize,
+) -> i32
+    ensures { result ≡ (if nat_lt participant (B.OfferBook.meaning book.now).count then reference (B.OfferBook.meaning book.now) (N.Network.meaning network.now) (prices_of quote.now) participant else pos 0) }
+{
+    if participant < book.count() {
+        reference(book, network, quote, participant)
+    } else {
+        0
+    }
+}
+
 // The reference prices of all participants.
 fn references_of<B: OfferBook, N: Network>(book: &B, network: &N, quote: &Quote) -> [i32; 64]
     ensures { (i : ℕ) → i < (B.OfferBook.meaning book.now).count → slice_index_or result i (pos 0) ≡ reference (B.OfferBook.meaning book.now) (N.Network.meaning network.now) (prices_of quote.now) i }
 {
-    array::from_fn(|participant| reference(book, network, quote, participant))
+    array::from_fn(|participant| reference_at(book, network, quote, participant))
 }
 
 impl<B: OfferBook, N: Network> Run<B, N> {

@@ -1,5 +1,8 @@
 // What a line says, by its first word.
 
+ghost use Rattle.std.specs.Prelude.{◌≢◌, IfErr};
+ghost use Rattle.words.specs.declared.mistake.Mistake.TheVariants.{NoSlash};
+
 use block::BlockRow;
 use calls::{BasePoints, ParticipantTerm};
 use entries::{
@@ -24,7 +27,9 @@ pub enum Statement {
     Base(BasePoints),
 }
 
-pub fn read_line(line: &str) -> Result<Statement, Mistake> {
+pub fn read_line(line: &str) -> Result<Statement, Mistake>
+    ensures { IfErr result (λ m. m ≢ NoSlash) }
+{
     let mut words = Words::of(line);
     match words.next() {
         None => Ok(Statement::Blank),

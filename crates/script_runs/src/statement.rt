@@ -1,5 +1,8 @@
 // What a line says, by its first word.
 
+ghost use Rattle.std.specs.Prelude.{◌≢◌, IfErr};
+ghost use Rattle.words.specs.declared.mistake.Mistake.TheVariants.{ManyBasePoints};
+
 use crate::proposal::read_proposal;
 use crate::terms::{read_limit, read_requirement};
 use block::BlockRow;
@@ -32,7 +35,9 @@ pub enum Statement {
 
 // Five words make what they make in `script`, as variants of another type: to let one match call the other would name
 // each of them twice, and be no plainer.
-pub fn read_line(line: &str) -> Result<Statement, Mistake> {
+pub fn read_line(line: &str) -> Result<Statement, Mistake>
+    ensures { IfErr result (λ m. m ≢ ManyBasePoints) }
+{
     let mut words = Words::of(line);
     match words.next() {
         None => Ok(Statement::Blank),

@@ -1,7 +1,8 @@
 // Why a program ends before its script does.
 
 ghost use Rattle.std.specs.Prelude.{◌≡◌};
-ghost use Rattle.shell.specs.declared.stop.Stop.TheVariants.{Refused as Declined};
+ghost use Rattle.shell.specs.declared.stop.Stop.TheVariants.{Refused as Declined, Failed};
+ghost use Rattle.std.specs.declared.io.Error.{Error as IoError};
 
 use crate::flaw::Flaw;
 use fault::Fault;
@@ -33,6 +34,8 @@ impl From<io::Error> for Stop {
 }
 
 impl<T: Drop> From<AllocFailed<T>> for Stop {
+    ghost from_gives = { λ _ r. (e : IoError) × (r ≡ Failed e) };
+
     fn from(refused: AllocFailed<T>) -> Stop {
         Stop::Failed(io::Error::from(refused))
     }

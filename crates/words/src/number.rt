@@ -1,8 +1,9 @@
 // Numbers as words. One that is too large for its field counts as the largest that the field
 // holds, however many digits it has, so that the rules of the field decline it.
 
-ghost use Rattle.std.specs.Prelude.{◌≡◌, ℕ, min, pos, neg_ℤ, Ok, Err, MatchResult};
+ghost use Rattle.std.specs.Prelude.{◌≡◌, ℕ, min, pos, neg_ℤ, Ok, Err, IfErr, MatchResult};
 ghost use Rattle.words.specs.Digits.{number_of, number_within, price_of};
+ghost use Rattle.words.specs.declared.mistake.Mistake.TheVariants.{NotANumber};
 
 use crate::mistake::Mistake;
 
@@ -48,20 +49,22 @@ impl Field for u32 {
 
 // A word of decimal digits, for a field.
 pub fn read_field<F: Field>(word: &str) -> Result<F, Mistake>
-    ensures { MatchResult result (λ held. number_within F.greatest word.now ≡ Ok (F.value held)) (λ m. number_within F.greatest word.now ≡ Err m) }
+    ensures { MatchResult result (λ held. number_within F.greatest word.now ≡ Ok (F.value held)) (λ m. (m ≡ NotANumber) × (number_within F.greatest word.now ≡ Err m)) }
 {
     Ok(F::holding(read_number(word)?))
 }
 
 // A word of decimal digits.
 pub fn read_number(word: &str) -> Result<u64, Mistake>
-    ensures { result ≡ number_of word.now }
+    ensures number { result ≡ number_of word.now }
+    ensures mistakes { IfErr result (λ m. m ≡ NotANumber) }
 {
     read_digits(word.as_bytes())
 }
 
 fn read_digits(word: &[u8]) -> Result<u64, Mistake>
-    ensures { result ≡ number_of word.now }
+    ensures number { result ≡ number_of word.now }
+    ensures mistakes { IfErr result (λ m. m ≡ NotANumber) }
 {
     if word.is_empty() {
         return Err(Mistake::NotANumber);
@@ -80,7 +83,8 @@ fn read_digits(word: &[u8]) -> Result<u64, Mistake>
 
 // Digits, after `-` where the price is below 0.
 pub fn read_price(word: &str) -> Result<i32, Mistake>
-    ensures { result ≡ price_of word.now }
+    ensures price { result ≡ price_of word.now }
+    ensures mistakes { IfErr result (λ m. m ≡ NotANumber) }
 {
     match word.as_bytes() {
         [b'-', digits @ ..] => Ok(below_zero(read_digits(digits)?)),

@@ -1,5 +1,6 @@
 use Rattle.std.proofs.Common.{[], ◌∷◌, ◌++◌, sym, refl, ◌∙◌, arith}
 use Rattle.std.proofs.lemmas.List.{length-append, take_all}
+use Rattle.std.proofs.lemmas.Result.{err_from_is_err_and}
 use Rattle.given.proofs.Lists.{taken_then}
 use Rattle.entries.specs.Entries.{Lists}
 use Rattle.entries.proofs.Taken.{reads_none, reads_more}
@@ -24,3 +25,8 @@ unfolding Lists
 returns g c =
     let (entries, reads, count, table) = c.loop-word.invariant in
     (entries, (_, reads, c.in-None.ensures.steps), count, table)
+
+pub returns-in_err-read : goal.returns-in_err-read
+returns-in_err-read g c =
+    let p = err_from_is_err_and c.from_residual.result c.from_residual.ensures.1 in
+    rw (p.1, p.2) (c.in-Some.word.now, record { shown = c.in-Some.word; shows = refl; says = record { met = c.in_err-read.ensures } })

@@ -1,5 +1,6 @@
-use Rattle.std.proofs.Common.{◌+◌, [], ◌∷◌, ◌++◌, ap, ◌∙◌, refl, arith}
+use Rattle.std.proofs.Common.{◌+◌, [], ◌∷◌, ◌++◌, ap, ◌∙◌, refl, inl, arith}
 use Rattle.std.proofs.lemmas.List.{length-append}
+use Rattle.std.proofs.lemmas.Result.{err_from_is_err_and}
 use Rattle.entries.specs.Entries.{Lists}
 use Rattle.entries.proofs.Taken.{reads_none, reads_more}
 use Rattle.entries.proofs.list.read_within.Goals as goal
@@ -26,3 +27,8 @@ unfolding Lists
 returns g c =
     let (entries, reads, few, count, table) = c.loop-word.invariant in
     (entries, (_, reads, c.in-None.ensures.steps), few, count, table)
+
+pub returns-in_err-read : goal.returns-in_err-read
+returns-in_err-read g c =
+    let p = err_from_is_err_and c.from_residual.result c.from_residual.ensures.1 in
+    rw (p.1, p.2) (inl (c.in-Some.word.now, record { shown = c.in-Some.word; shows = refl; says = record { met = c.in_err-read.ensures } }))

@@ -10,7 +10,7 @@ returns c = (
   left c.word-3.new.self,
   left c.word-4.new.self,
   left c.word-5.new.self,
-  (_, _, c.in_ok-word.ensures, sym c.in_ok-participant.ensures, refl),
+  (_, _, c.in_ok-word.ensures, sym c.in_ok-participant.ensures.number, refl),
   (_, _, c.in_ok-word-2.ensures, search rules, (_, _, c.in_ok-word-3.ensures, search rules, refl)),
   (_, _, c.in_ok-word-4.ensures, c.in_ok-adder.ensures, refl),
   (_, _, c.in_ok-word-5.ensures, c.in_ok-subject.ensures.said, refl),
