@@ -14,6 +14,9 @@ most_at a b e = omega (arith, ints)
 pub not_above : (a b : ℤ) → lt_z b a ≡ false → a ≤ℤ b
 not_above a b e = omega (arith, ints)
 
+pub above_not : (a b : ℤ) → a ≤ℤ b → lt_z b a ≡ false
+above_not a b h = grind (arith, ints)
+
 pub same_is : (a b : ℤ) → same a b ≡ true → a ≡ b
 same_is a b e =
     let both = and_parts (le_z a b) (le_z b a) e in

@@ -1,6 +1,7 @@
 // What a line says, by its first word.
 
-ghost use Rattle.std.specs.Prelude.{◌≢◌, IfErr};
+ghost use Rattle.std.specs.Prelude.{◌≢◌, IfErr, IfOk};
+ghost use Rattle.script.specs.Fitting.{Fits};
 ghost use Rattle.words.specs.declared.mistake.Mistake.TheVariants.{NoSlash};
 
 use block::BlockRow;
@@ -28,7 +29,8 @@ pub enum Statement {
 }
 
 pub fn read_line(line: &str) -> Result<Statement, Mistake>
-    ensures { IfErr result (λ m. m ≢ NoSlash) }
+    ensures fits { IfOk result Fits }
+    ensures mistakes { IfErr result (λ m. m ≢ NoSlash) }
 {
     let mut words = Words::of(line);
     match words.next() {
