@@ -8,6 +8,7 @@ use crate::term::Term;
 pub struct Table {
     pub(crate) terms: [Term; 64],
     pub(crate) references: [i32; 64],
+    // whether they are in force: those that are not stay, and so no `Option` holds them
     pub(crate) referenced: bool,
     ghost termed: { length terms ≡ 64 },
     ghost listed: { length references ≡ 64 },

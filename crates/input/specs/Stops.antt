@@ -21,7 +21,7 @@ IsFlawOfCalls RowAfterTerms = ⊥
 IsFlawOfCalls SecondReference = ⊥
 IsFlawOfCalls PriceCount = ⊥
 
--- a flaw of this line, or no memory
+-- a flaw of this line, or a failure, as where there is no memory
 abbrev pub Stops : ℕ → Stop → Type 0
 Stops line (Malformed n flaw) = (n ≡ line) × IsFlawOfCalls flaw
 Stops line (Refused _) = ⊥
